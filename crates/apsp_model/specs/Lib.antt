@@ -1,0 +1,12 @@
+pub mod Graph
+pub mod Walk
+pub mod Order
+pub mod Part
+pub mod Least
+pub mod Local
+pub mod Star
+pub mod Command
+pub mod Kept
+pub mod Counts
+pub mod Stated
+pub mod Paths
