@@ -1,0 +1,48 @@
+//! Forty paths of one pair, and the least of them until none is left.
+
+ghost use Rattle.std.specs.Prelude.{◌≡◌, OnOk};
+ghost use Rattle.pair_heaps.specs.Heaps.{Fits};
+
+use crate::Heaps;
+use apsp_model::Memory;
+use path_arena::Arena;
+use std::test::Fail;
+
+/// One more path from 0 to 2.
+fn add(arena: &mut Arena, heaps: &mut Heaps, w: u32) -> Result<(), Memory>
+    requires fits { Fits heaps.old arena.old }
+    requires three { arena.old.vertices ≡ 3 }
+    ensures fits { OnOk result (Fits heaps.new arena.new) }
+    ensures three { OnOk result (arena.new.vertices ≡ 3) }
+{
+    let id = arena.edge(0, 2, w, 1)?;
+    heaps.reserve(0, 2)?;
+    heaps.insert(arena, id)?;
+    Ok(())
+}
+
+#[test]
+fn forty_paths(rt: HostRuntime) -> Result<(), Fail> {
+    let mut arena = Arena::new(rt.alloc(), 3)?;
+    let mut heaps = Heaps::new(rt.alloc(), 3)?;
+    assert!(rt; heaps.least(0, 2).is_none());
+    // 13 k mod 41 takes each of 1 to 40 once, and 0 never; some weights come twice.
+    let mut weights = Vec::new(rt.alloc());
+    'filling: for k in 1..41u32 {
+        let w = (13 * k % 41) / 2 + 1;
+        add(&mut arena, &mut heaps, w)?;
+        weights.push(w)?;
+    }
+    weights.sort()?;
+    'emptying: for w in &weights {
+        if let Some(id) = heaps.least(0, 2) {
+            assert_eq!(rt; arena.weight(id), u64::from(*w));
+            heaps.remove(&arena, id);
+        } else {
+            assert!(rt; false, "none is left before {w}");
+        }
+    }
+    assert!(rt; heaps.least(0, 2).is_none());
+    assert!(rt; heaps.least(2, 0).is_none());
+    Ok(())
+}
