@@ -2,3 +2,6 @@ pub mod Keys
 pub mod Slots
 pub mod Paths
 pub mod Stores
+pub mod Puts
+pub mod Calls
+pub mod Steps

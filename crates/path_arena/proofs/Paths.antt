@@ -1,5 +1,5 @@
 -- What the paths of an arena keep when one is added or taken out.
-use Rattle.std.specs.Prelude.{◌≡◌, ◌≢◌, ℕ, suc, ◌+◌, ◌-◌, ◌*◌, ◌<◌, ◌≤◌, ◌⊎◌, List, [], ◌∷◌, ◌++◌, length, Option, Some, None, IsSome, unwrap_or, option_to_list, refl, Contains}
+use Rattle.std.specs.Prelude.{◌≡◌, ◌≢◌, ℕ, ◌+◌, ◌*◌, ◌<◌, ◌≤◌, ◌⊎◌, List, [], ◌∷◌, ◌++◌, length, Option, Some, None, IsSome, is_some, unwrap_or, option_to_list, refl, Contains}
 use Rattle.std.proofs.Common.{sym, ◌∙◌, ap, subst, arith, inl, inr}
 use Rattle.std.proofs.lemmas.Bool.{cases_eq, false≢true}
 use Rattle.std.proofs.lemmas.List.{length-append}
@@ -54,9 +54,9 @@ parted a id h edge = go (path_at a id) refl
   where
     go : (o : Option Path) → path_at a id ≡ o → Parted a id
     go None e = absurd (
-      let G : Option Path → Type 0 = λ o. IsSome (unwrap_or o no_path).left in
-      false≢true (subst G e edge)
-    )
+        let G : Option Path → Type 0 = λ o. IsSome (unwrap_or o no_path).left in
+        false≢true (subst G e edge)
+        )
     go (Some p) e =
         let here : path_at a id ≡ Some p = e in
         let is : IsPath a id p = h.paths id p e in
@@ -336,8 +336,77 @@ IsPath-joined a id l r birth h j = record {
     fits =
         let longer : hops_of (joined_path a l r birth).list ≡ hops_of (list_of a l) + 1 = omega (arith, ap length list_is, length-append (list_of a l) (to ∷ []), long_left) in
         let before : weight_of a l ≤ hops_of (list_of a l) * MOST_WEIGHT =
-          (let k : m.left.path.weight ≤ hops_of m.left.path.list * MOST_WEIGHT = m.left.is.weight in
-          let F : List ℕ → Type 0 = λ p. weight_of a l ≤ hops_of p * MOST_WEIGHT in
-          subst F (sym list_l) (let wl : weight_of a l ≡ m.left.path.weight = ap (λ q. q.weight) m.left.of in omega arith)) in
+        (let k : m.left.path.weight ≤ hops_of m.left.path.list * MOST_WEIGHT = m.left.is.weight in
+        let F : List ℕ → Type 0 = λ p. weight_of a l ≤ hops_of p * MOST_WEIGHT in
+        subst F (sym list_l) (let wl : weight_of a l ≡ m.left.path.weight = ap (λ q. q.weight) m.left.of in omega arith)) in
         let F : ℕ → Type 0 = λ k. (joined_path a l r birth).weight ≤ k * MOST_WEIGHT in
         subst F (sym longer) (omega (arith, before, weights.0, weights.1, weights.2))
+
+-- ---- for callers: what is live, can be joined and can be taken out, behind an equation for the new arena
+
+pub live_added : (a b : Arena) (id : ℕ) (p : Path) → b ≡ with_path a id p → IsLive b id
+live_added a b id p e = live_from b id p (ap (λ m. path_at m id) e ∙ get_put a.paths id p)
+
+pub live_still : (a b : Arena) (id : ℕ) (p : Path) (k : ℕ) → b ≡ with_path a id p → IsLive a k → IsLive b k
+live_still a b id p k e live = elim (cases_eq k id) [
+  | inl same ↦ (let F : ℕ → Type 0 = λ j. IsLive b j in subst F (sym same) (live_added a b id p e))
+  | inr apart ↦ (let there = live_path a k live in live_from b k there.0 (ap (λ m. path_at m k) e ∙ get_put_other a.paths id p k apart ∙ there.1))
+]
+
+-- a path that was added is part of no other
+pub added_is_part_of_none : (a b : Arena) (id : ℕ) (p : Path) → IsArena a → path_at a id ≡ None → (p.left ≡ Some id → ⊥) → (p.right ≡ Some id → ⊥) → b ≡ with_path a id p → IsPartOfNone b id
+added_is_part_of_none a b id p h fresh not_left not_right e =
+    subst (λ m. IsPartOfNone m id) (sym e) (record { left = λ k is. left k is (cases_eq k id); right = λ k is. right k is (cases_eq k id) })
+  where
+    not_live : (q : Path) (x : ℕ) → IsPath a x q → (q.left ≡ Some id → ⊥) × (q.right ≡ Some id → ⊥)
+    not_live q x is = by_kind is.kind
+      where
+        by_kind : IsSingle a x q ⊎ HasParts a q → (q.left ≡ Some id → ⊥) × (q.right ≡ Some id → ⊥)
+        by_kind (inl one) = (λ l. absurd (let n : None ≡ Some id = sym (ap (λ r. r.left) one.3) ∙ l in cc), λ l. absurd (let n : None ≡ Some id = sym (ap (λ r. r.right) one.3) ∙ l in cc))
+        by_kind (inr parts) = (
+          λ l. live_apart a id parts.left fresh parts.left_live (same_id parts.left id (sym parts.left_is ∙ l)),
+          λ l. live_apart a id parts.right fresh parts.right_live (same_id parts.right id (sym parts.right_is ∙ l)),
+        )
+
+    -- what the old arena has under another id
+    other : (k : ℕ) → (k ≢ id) → ((path_of a k).left ≡ Some id → ⊥) × ((path_of a k).right ≡ Some id → ⊥)
+    other k apart = go (path_at a k) refl
+      where
+        go : (o : Option Path) → path_at a k ≡ o → ((path_of a k).left ≡ Some id → ⊥) × ((path_of a k).right ≡ Some id → ⊥)
+        go None f = (λ l. (let n : None ≡ Some id = sym (ap (λ r. (unwrap_or r no_path).left) f) ∙ l in cc), λ l. (let n : None ≡ Some id = sym (ap (λ r. (unwrap_or r no_path).right) f) ∙ l in cc))
+        go (Some q) f =
+            let no_part = not_live q k (h.paths k q f) in
+            (λ l. no_part.0 (sym (ap (λ r. (unwrap_or r no_path).left) f) ∙ l), λ l. no_part.1 (sym (ap (λ r. (unwrap_or r no_path).right) f) ∙ l))
+
+    left : (k : ℕ) → left_of (with_path a id p) k ≡ Some id → (k ≡ id) ⊎ (k ≢ id) → ⊥
+    left k is (inl same) = not_left (sym (ap (λ q. q.left) (path_of_at (with_path a id p) id p (get_put a.paths id p))) ∙ ap (left_of (with_path a id p)) (sym same) ∙ is)
+    left k is (inr apart) = (other k apart).0 (sym (ap (λ o. (unwrap_or o no_path).left) (get_put_other a.paths id p k apart)) ∙ is)
+
+    right : (k : ℕ) → right_of (with_path a id p) k ≡ Some id → (k ≡ id) ⊎ (k ≢ id) → ⊥
+    right k is (inl same) = not_right (sym (ap (λ q. q.right) (path_of_at (with_path a id p) id p (get_put a.paths id p))) ∙ ap (right_of (with_path a id p)) (sym same) ∙ is)
+    right k is (inr apart) = (other k apart).1 (sym (ap (λ o. (unwrap_or o no_path).right) (get_put_other a.paths id p k apart)) ∙ is)
+
+-- two edges that were added one after the other, where the first ends at the vertex at which the second begins
+pub edges_can_join : (a b d : Arena) (l r u v x w z birth later : ℕ) → path_at a l ≡ None → b ≡ with_path a l (edge_path a u v w birth) → path_at b r ≡ None → d ≡ with_path b r (edge_path b v x z later) → u ≢ x → CanJoin d l r
+edges_can_join a b d l r u v x w z birth later fresh_l first_added fresh_r second_added apart = record {
+  left_live = ap (λ q. is_some q.left) of_l;
+  right_live = ap (λ q. is_some q.left) of_r;
+  meets = ap (λ q. q.right) of_l ∙ ap (λ m. Some (vertex_of m v)) (sym first_added) ∙ sym (ap (λ q. q.left) of_r);
+  apart = λ same. apart (same_id u x (sym (ap (λ q. first q.list) of_l) ∙ same ∙ ap (λ q. last q.list) of_r));
+}
+  where
+    at_l : path_at b l ≡ Some (edge_path a u v w birth)
+    at_l = ap (λ m. path_at m l) first_added ∙ get_put a.paths l (edge_path a u v w birth)
+
+    differ : l ≢ r
+    differ = live_apart b r l fresh_r (live_from b l (edge_path a u v w birth) at_l)
+
+    of_l : path_of d l ≡ edge_path a u v w birth
+    of_l = path_of_at d l (edge_path a u v w birth) (ap (λ m. path_at m l) second_added ∙ get_put_other b.paths r (edge_path b v x z later) l differ ∙ at_l)
+
+    of_r : path_of d r ≡ edge_path b v x z later
+    of_r = path_of_at d r (edge_path b v x z later) (ap (λ m. path_at m r) second_added ∙ get_put b.paths r (edge_path b v x z later))
+
+-- what was added has an edge, where it has a left part
+pub edge_added : (a b : Arena) (id : ℕ) (p : Path) (l : ℕ) → b ≡ with_path a id p → p.left ≡ Some l → HasAnEdge b id
+edge_added a b id p l e has = ap is_some (ap (λ q. q.left) (path_of_at b id p (ap (λ m. path_at m id) e ∙ get_put a.paths id p)) ∙ has)

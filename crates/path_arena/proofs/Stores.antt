@@ -1,18 +1,18 @@
 -- The slots of an arena: what they hold where it is lawful, and when a record is put in or taken out.
-use Rattle.std.specs.Prelude.{◌≡◌, ◌≢◌, ℕ, zero, suc, ◌+◌, ◌<◌, ◌⊎◌, List, [], ◌∷◌, length, Option, Some, None, IsSome, is_some, unwrap_or, refl}
+use Rattle.std.specs.Prelude.{◌≡◌, ◌≢◌, ℕ, zero, suc, ◌+◌, ◌⊎◌, List, [], ◌∷◌, length, Option, Some, None, IsSome, unwrap_or, refl}
 use Rattle.std.specs.Option.{option_map}
 use Rattle.std.specs.FinMap as map
 use Rattle.std.proofs.Common.{sym, ◌∙◌, ap, subst, arith, inl, inr}
 use Rattle.std.proofs.lemmas.Bool.{cases_eq, false≢true}
 use Rattle.apsp_model.specs.Walk.{first, last}
 use Rattle.apsp_model.specs.Part.{right_part}
-use Rattle.path_arena.specs.Arena.{Path, Arena, path_at, vertex_of, IsLive, no_path, path_of, list_of, right_of, HasAnEdge, with_path, without_path, IsPartOfNone, HasParts, IsSingle, IsPath, IsArena}
+use Rattle.path_arena.specs.Arena.{Path, Arena, path_at, IsLive, path_of, list_of, right_of, HasAnEdge, with_path, without_path, IsPartOfNone, HasParts, IsSingle, IsPath, IsArena}
 use Rattle.path_arena.specs.Records.{no_record, slot_at, record_at, list_at, part_id, path_from, paths_in, arena_in, view_of, IsSound, IsRecordOf, IsKept, IsPut, IsTaken}
 use Rattle.path_arena.specs.declared.arena.Record.{Record}
 use Rattle.path_arena.specs.declared.arena.Arena.TheInside.{Inside}
 use Rattle.path_arena.proofs.Keys.{same_put, same_gone}
 use Rattle.path_arena.proofs.Slots.{get-paths_in}
-use Rattle.path_arena.proofs.Paths.{live_apart, live_path, live_from, path_of_at, IsArena-with, IsArena-without}
+use Rattle.path_arena.proofs.Paths.{live_apart, live_from, path_of_at, IsArena-with, IsArena-without}
 
 pub length-list_at : (slots : List (Option Record)) (hops key : ℕ) → length (list_at slots hops key) ≡ hops + 1
 length-list_at slots zero key = refl

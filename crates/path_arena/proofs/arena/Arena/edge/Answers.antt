@@ -1,24 +1,32 @@
-use Rattle.std.proofs.Common.{rules, ◌≡◌, ◌≢◌, ℕ, ◌<◌, ◌≤◌, ◌↔◌, Some, IsTrue, IfOk, OnErr, Contains, length, ◌+◌, ◌-◌, ◌*◌, ◌/◌, ◌%◌, Bool, true, false, nat_eq, nat_lt, List, [], ◌∷◌, ◌++◌, slice_index_or, slice_set, bit_and, bit_or, Fits, w8, w32, w64, Bor, MutBor}
-use Rattle.std.specs.Ordering.{nat_cmp}
-use Rattle.std.specs.Cmp.Lexicographic.{slice_cmp}
-use Rattle.apsp_model.specs.Walk.{first, last, hops_of}
-use Rattle.apsp_model.specs.Order.{path_cmp}
-use Rattle.path_arena.specs.Arena.{path_at, vertex_of, IsLive, path_of, list_of, weight_of, left_of, right_of, HasAnEdge, single, edge_path, joined_path, with_path, without_path, IsPartOfNone, CanJoin, IsArena, IsOpening}
-use Rattle.path_arena.specs.Records.{IsPut, IsSingleRecord, IsRecordOf}
+use Rattle.std.proofs.Common.{refl, arith}
+use Rattle.path_arena.specs.Arena.{edge_path}
+use Rattle.path_arena.proofs.Calls.{Added, edge_added, single_read}
 use Rattle.path_arena.proofs.arena.Arena.edge.Goals as goal
 
--- src/arena.rt:88:5
+-- what the call makes of the arena
+added : (c : goal.After-put) → Added c.self.inside.singles.items c.put.new.records.slots c.args.self.now (edge_path c.args.self.now c.args.u c.args.v c.args.w c.args.birth) c.put.result
+added c =
+    edge_added c.self.inside c.args.self.now c.self.view_is c.self.invariant c.put.new.records.slots
+    c.args.u c.args.v c.args.w c.args.birth (record { weight = c.from.result; birth = c.args.birth; first = c.args.u; last = c.args.v; hops = 1; left = c.index.result.now; right = c.index-2.result.now }) c.requires.from c.requires.to c.requires.apart (omega (arith, c.ranges.w))
+    (record {
+      weight = cc;
+      birth_is = refl;
+      first = refl;
+      last = refl;
+      hops = refl;
+      left = single_read c.self.inside c.args.self.now c.self.view_is c.args.u c.index.result.now c.requires.from c.index.ensures;
+      right = single_read c.self.inside c.args.self.now c.self.view_is c.args.v c.index-2.result.now c.requires.to c.index-2.ensures;
+    })
+    c.put.result c.put.ensures.ok c.put.ensures.memory
+
 pub invariant_of-self : goal.invariant_of-self
-invariant_of-self c = ?
+invariant_of-self c = (added c).kept
 
--- src/arena.rt:88:5
 pub returns-clause-fresh : goal.returns-clause-fresh
-returns-clause-fresh c = ?
+returns-clause-fresh c = (added c).fresh
 
--- src/arena.rt:88:5
 pub returns-clause-added : goal.returns-clause-added
-returns-clause-added c = ?
+returns-clause-added c = (added c).added
 
--- src/arena.rt:88:5
 pub returns-clause-lawful : goal.returns-clause-lawful
-returns-clause-lawful c = ?
+returns-clause-lawful c = (added c).kept.arena

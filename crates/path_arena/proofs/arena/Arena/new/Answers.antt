@@ -1,28 +1,24 @@
-use Rattle.std.proofs.Common.{rules, ◌≡◌, ◌≢◌, ℕ, ◌<◌, ◌≤◌, ◌↔◌, Some, IsTrue, IfOk, OnErr, Contains, length, ◌+◌, ◌-◌, ◌*◌, ◌/◌, ◌%◌, Bool, true, false, nat_eq, nat_lt, List, [], ◌∷◌, ◌++◌, slice_index_or, slice_set, bit_and, bit_or, Fits, w8, w32, w64, Bor, MutBor}
-use Rattle.std.specs.Ordering.{nat_cmp}
-use Rattle.std.specs.Cmp.Lexicographic.{slice_cmp}
-use Rattle.apsp_model.specs.Walk.{first, last, hops_of}
-use Rattle.apsp_model.specs.Order.{path_cmp}
-use Rattle.path_arena.specs.Arena.{path_at, vertex_of, IsLive, path_of, list_of, weight_of, left_of, right_of, HasAnEdge, single, edge_path, joined_path, with_path, without_path, IsPartOfNone, CanJoin, IsArena, IsOpening}
-use Rattle.path_arena.specs.Records.{IsPut, IsSingleRecord, IsRecordOf}
+use Rattle.std.proofs.Common.{◌≡◌, subst, arith, rules}
+use Rattle.path_arena.proofs.Calls.{Opened, IsFilled, filled_none, filled_more, filled_all}
 use Rattle.path_arena.proofs.arena.Arena.new.Goals as goal
 
--- src/arena.rt:70:9
 pub loop-v-init : goal.loop-v-init
-loop-v-init c = ?
+loop-v-init c = filled_none _ _ (search rules) (search rules)
 
--- src/arena.rt:70:9
 pub loop-v-preserved : goal.loop-v-preserved
-loop-v-preserved c = ?
+loop-v-preserved c = filled_more c.loop-v.singles.items c.push.new.self.items c.loop-v.records.slots c.put.new.records.slots c.loop-v.v c.in_ok-id.id c.single_record.result c.loop-v.invariant c.single_record.ensures (search rules) (search rules)
 
--- src/arena.rt:74:9
+opened : (c : goal.After-loop-v) → Opened c.loop-v.singles.items c.loop-v.records.slots c.args.n
+opened c =
+    let F = IsFilled c.loop-v.singles.items c.loop-v.records.slots in
+    let all : c.loop-v.v ≡ c.args.n = omega arith in
+    filled_all _ _ c.args.n c.requires.some c.requires.most (subst F all c.loop-v.invariant)
+
 pub invariant_of-result : goal.invariant_of-result
-invariant_of-result c = ?
+invariant_of-result c = (opened c).kept
 
--- src/arena.rt:62:5
 pub returns-clause-opening : goal.returns-clause-opening
-returns-clause-opening c = ?
+returns-clause-opening c = (opened c).opening
 
--- src/arena.rt:62:5
 pub returns-clause-lawful : goal.returns-clause-lawful
-returns-clause-lawful c = ?
+returns-clause-lawful c = (opened c).kept.arena

@@ -1,16 +1,8 @@
-use Rattle.std.proofs.Common.{rules, ◌≡◌, ◌≢◌, ℕ, ◌<◌, ◌≤◌, ◌↔◌, Some, IsTrue, IfOk, OnErr, Contains, length, ◌+◌, ◌-◌, ◌*◌, ◌/◌, ◌%◌, Bool, true, false, nat_eq, nat_lt, List, [], ◌∷◌, ◌++◌, slice_index_or, slice_set, bit_and, bit_or, Fits, w8, w32, w64, Bor, MutBor}
-use Rattle.std.specs.Ordering.{nat_cmp}
-use Rattle.std.specs.Cmp.Lexicographic.{slice_cmp}
-use Rattle.apsp_model.specs.Walk.{first, last, hops_of}
-use Rattle.apsp_model.specs.Order.{path_cmp}
-use Rattle.path_arena.specs.Arena.{path_at, vertex_of, IsLive, path_of, list_of, weight_of, left_of, right_of, HasAnEdge, single, edge_path, joined_path, with_path, without_path, IsPartOfNone, CanJoin, IsArena, IsOpening}
-use Rattle.path_arena.specs.Records.{IsPut, IsSingleRecord, IsRecordOf}
+use Rattle.path_arena.proofs.Stores.{live_slot, slot_describes}
 use Rattle.path_arena.proofs.arena.Arena.record.Goals as goal
 
--- src/arena.rt:148:10
 pub index-requires : goal.index-requires
-index-requires c = ?
+index-requires c = live_slot c.self.inside c.args.self.now c.self.view_is c.key.result (rw c.key.ensures.value c.requires)
 
--- src/arena.rt:143:5
 pub returns-clause-describes : goal.returns-clause-describes
-returns-clause-describes c = ?
+returns-clause-describes c = slot_describes c.self.inside c.args.self.now c.self.view_is c.self.invariant c.args.id c.index.result.now (rw c.key.ensures.value at c.index.ensures)

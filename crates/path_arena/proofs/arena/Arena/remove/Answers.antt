@@ -1,24 +1,24 @@
-use Rattle.std.proofs.Common.{rules, ◌≡◌, ◌≢◌, ℕ, ◌<◌, ◌≤◌, ◌↔◌, Some, IsTrue, IfOk, OnErr, Contains, length, ◌+◌, ◌-◌, ◌*◌, ◌/◌, ◌%◌, Bool, true, false, nat_eq, nat_lt, List, [], ◌∷◌, ◌++◌, slice_index_or, slice_set, bit_and, bit_or, Fits, w8, w32, w64, Bor, MutBor}
-use Rattle.std.specs.Ordering.{nat_cmp}
-use Rattle.std.specs.Cmp.Lexicographic.{slice_cmp}
-use Rattle.apsp_model.specs.Walk.{first, last, hops_of}
-use Rattle.apsp_model.specs.Order.{path_cmp}
-use Rattle.path_arena.specs.Arena.{path_at, vertex_of, IsLive, path_of, list_of, weight_of, left_of, right_of, HasAnEdge, single, edge_path, joined_path, with_path, without_path, IsPartOfNone, CanJoin, IsArena, IsOpening}
-use Rattle.path_arena.specs.Records.{IsPut, IsSingleRecord, IsRecordOf}
+use Rattle.std.proofs.Common.{subst}
+use Rattle.path_arena.specs.Records.{IsTaken}
+use Rattle.path_arena.proofs.Paths.{live_from_edge}
+use Rattle.path_arena.proofs.Stores.{live_slot, lawful_inside}
+use Rattle.path_arena.proofs.Calls.{Removed, path_removed}
 use Rattle.path_arena.proofs.arena.Arena.remove.Goals as goal
 
--- src/arena.rt:140:17
 pub remove-requires : goal.remove-requires
-remove-requires c = ?
+remove-requires c = live_slot c.self.inside c.args.self.now c.self.view_is c.key.result (rw c.key.ensures.value (live_from_edge c.args.self.now c.args.id (lawful_inside c.self.inside c.args.self.now c.self.view_is c.self.invariant) c.requires.edge))
 
--- src/arena.rt:134:5
+removed : (c : goal.After-remove) → Removed c.self.inside.singles.items c.remove.new.self.slots c.args.self.now c.args.id
+removed c =
+    let taken : IsTaken c.self.inside.records.slots c.remove.new.self.slots c.key.result = record { here = c.remove.ensures.updates.changed; others = c.remove.ensures.updates.others } in
+    path_removed c.self.inside c.args.self.now c.self.view_is c.self.invariant c.remove.new.self.slots c.args.id c.requires.edge c.requires.free
+    (subst (IsTaken c.self.inside.records.slots c.remove.new.self.slots) c.key.ensures.value taken)
+
 pub invariant_of-self : goal.invariant_of-self
-invariant_of-self c = ?
+invariant_of-self c = (removed c).kept
 
--- src/arena.rt:134:5
 pub returns-clause-removed : goal.returns-clause-removed
-returns-clause-removed c = ?
+returns-clause-removed c = (removed c).removed
 
--- src/arena.rt:134:5
 pub returns-clause-lawful : goal.returns-clause-lawful
-returns-clause-lawful c = ?
+returns-clause-lawful c = (removed c).kept.arena
