@@ -1,0 +1,5 @@
+pub mod Tables
+pub mod Graphs
+pub mod StarRows
+pub mod Cells
+pub mod Sets
