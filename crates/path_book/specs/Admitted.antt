@@ -2,9 +2,8 @@
 use Rattle.std.specs.Prelude.{◌≡◌, ℕ, ◌↔◌, ◌≤◌, Some, Contains}
 use Rattle.std.specs.FinMap as map
 use Rattle.path_arena.specs.Arena.{Arena, left_of, right_of}
-use Rattle.pair_heaps.specs.Heaps.{Heaps, IsInserted, Fits, spare_at}
+use Rattle.pair_heaps.specs.Heaps.{Heaps, IsInserted, Fits, HasEnds, spare_at}
 use Rattle.extension_lists.specs.Known.{Known, IsKnown, sides_at, no_sides, added}
-use Rattle.path_book.specs.Book.{HasEnds}
 
 -- the id stands in no list
 pub record StandsNowhere (lists : Known) (id : ℕ) : Type 0 where

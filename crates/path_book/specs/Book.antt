@@ -10,6 +10,7 @@ use Rattle.apsp_model.specs.Kept.{IsWithEdge}
 use Rattle.apsp_model.specs.Counts.{CountIs}
 use Rattle.apsp_model.specs.Paths.{KeptPath, IsKeptIn, IsHistoricalIn}
 use Rattle.path_arena.specs.Arena.{Path, Arena, arena_code, path_at, vertex_of, IsLive, list_of, left_of, right_of, HasAnEdge, with_path, without_path, id_cmp, IsArena}
+use Rattle.pair_heaps.specs.Heaps.{HasEnds}
 use Rattle.extension_lists.specs.Known.{Known, IsKnown, sides_at}
 
 -- the paths by id, all of which are kept, and the ids of those that are historical
@@ -71,10 +72,6 @@ pub record HasExtensions (b : Book) (lists : Known) : Type 0 where
   pub right : (k id : ℕ) → Contains (sides_at lists k).right id ↔ (left_of b.arena id ≡ Some k)
   pub left_star : (k id : ℕ) → Contains (sides_at lists k).left_star id ↔ ((right_of b.arena id ≡ Some k) × IsMarked b id)
   pub right_star : (k id : ℕ) → Contains (sides_at lists k).right_star id ↔ ((left_of b.arena id ≡ Some k) × IsMarked b id)
-
--- x and y are the ends of the path of an id
-abbrev pub HasEnds : Arena → ℕ → ℕ → ℕ → Type 0
-HasEnds a id x y = (first (list_of a id) ≡ Some x) × (last (list_of a id) ≡ Some y)
 
 -- a kept path of the pair that no kept path of the pair is below
 pub record IsLeastKept (b : Book) (x y id : ℕ) : Type 0 where

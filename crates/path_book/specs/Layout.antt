@@ -4,9 +4,9 @@ use Rattle.std.specs.Ordering.{nat_cmp}
 use Rattle.std.specs.FinSet as set
 use Rattle.apsp_model.specs.Counts.{CountIs}
 use Rattle.path_arena.specs.Arena.{Arena, HasAnEdge, list_of}
-use Rattle.pair_heaps.specs.Heaps.{Heaps, held_at, Fits}
+use Rattle.pair_heaps.specs.Heaps.{Heaps, held_at, Fits, HasEnds}
 use Rattle.extension_lists.specs.Known.{Known}
-use Rattle.path_book.specs.Book.{Book, IsMarked, HasEnds, IsBook, HasExtensions}
+use Rattle.path_book.specs.Book.{Book, IsMarked, IsBook, HasExtensions}
 use Rattle.path_book.specs.declared.book.Book.TheInside.{Inside}
 
 -- the places of the marks, the first of which is k
@@ -35,10 +35,10 @@ abbrev pub IsCounted : Book → Bool → List ℕ → Type 0
 IsCounted b historical p = (id : ℕ) × HasAnEdge b.arena id × (list_of b.arena id ≡ p) × (set.contains b.marked id ≡ historical)
 
 -- the parts of a book keep what contracts see of it
-pub record IsStored (b : Book) (heaps : Heaps) (lists : Known) (historical pending : ℕ) : Type 0 where
+pub record IsStored (b : Book) (held : Heaps) (known : Known) (historical pending : ℕ) : Type 0 where
   pub book : IsBook b
-  pub heaps : HoldsPaths b.arena heaps
-  pub lists : HasExtensions b lists
+  pub heaps : HoldsPaths b.arena held
+  pub lists : HasExtensions b known
   pub historical_count : CountIs (IsCounted b true) historical
   pub pending_count : CountIs (IsCounted b false) pending
   pub most : historical + pending ≤ 2 ^ 48
