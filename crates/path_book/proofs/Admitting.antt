@@ -8,7 +8,8 @@ use Rattle.path_arena.specs.Arena.{Arena, IsLive, list_of, left_of, right_of, Ha
 use Rattle.path_arena.proofs.Paths.{Parted, parted}
 use Rattle.pair_heaps.specs.Heaps.{Heaps, IsInserted, Fits, HasEnds, spare_at}
 use Rattle.extension_lists.specs.Known.{Known}
-use Rattle.path_book.specs.Admitted.{entered, HasRoom, IsAdmitted}
+use Rattle.path_book.specs.Book.{entered}
+use Rattle.path_book.specs.Admitted.{HasRoom, IsAdmitted}
 
 -- the ends of a live path with an edge
 pub ends_of : (a : Arena) (id : ℕ) → IsArena a → HasAnEdge a id → (x : ℕ) × (y : ℕ) × HasEnds a id x y

@@ -3,10 +3,10 @@ use Rattle.std.specs.Prelude.{◌≡◌, ◌≢◌, ℕ, ◌⊎◌, ◌↔◌, B
 use Rattle.std.specs.FinMap as map
 use Rattle.std.proofs.Common.{sym, ◌∙◌, ap, subst, inl, inr}
 use Rattle.std.proofs.lemmas.Bool.{cases_eq, false≢true}
-use Rattle.fixup_math.proofs.Counting.{in_nil}
+use Rattle.std.proofs.lemmas.Cmp.{nat_cmp_total}
 use Rattle.path_arena.proofs.Keys.{get_put, get_put_other}
 use Rattle.extension_lists.specs.Known.{Sides, Known, no_sides, IsKnown, sides_at, StandsOnlyAt, IsWithout, IsLeft, IsDropped}
-use Rattle.path_book.specs.Admitted.{StandsNowhere, HasSameLists}
+use Rattle.path_book.specs.Admitted.{StandsNowhere}
 use Rattle.path_book.proofs.Sides.{not_known, sides_other, known_put}
 
 module _ (m : Known) (id : ℕ) (new : IsKnown m id → ⊥) where
@@ -45,38 +45,30 @@ module _ (m : Known) (id : ℕ) (new : IsKnown m id → ⊥) where
         right_star = λ k c. absurd (gone.right_star k c);
       }
 
+  -- a list without the id stays as it is
+  stays : (here : Bool) (xs ys : List ℕ) → IsLeft here id xs ys → (Contains xs id → ⊥) → ys ≡ xs
+  stays true xs ys is gone = is.absent gone
+  stays false xs ys is gone = is
+
   -- what is left where the new id is dropped again
-  pub dropped_again : (l r : ℕ) (after : Known) → StandsNowhere m id → IsDropped (map.insert m id no_sides) after id l r → HasSameLists m after
-  dropped_again l r after h d = record {
-    known = known;
-    left = side (λ (s : Sides). s.left) refl (λ k. k == r) h.left (λ k apart. d.left k apart);
-    right = side (λ (s : Sides). s.right) refl (λ k. k == l) h.right (λ k apart. d.right k apart);
-    left_star = side (λ (s : Sides). s.left_star) refl (λ k. k == r) h.left_star (λ k apart. d.left_star k apart);
-    right_star = side (λ (s : Sides). s.right_star) refl (λ k. k == l) h.right_star (λ k apart. d.right_star k apart);
-  }
+  pub dropped_again : (l r : ℕ) (after : Known) → StandsNowhere m id → IsDropped (map.insert m id no_sides) after id l r → after ≡ m
+  dropped_again l r after h d = map.same_map nat_cmp_total map.nat_cmp-IsAntisymmetric after m (λ q. at_key q (cases_eq q id))
     where
-      known : (q : ℕ) → IsKnown after q ↔ IsKnown m q
-      known q = elim (cases_eq q id) [
-        | inl same ↦ (
-          λ is. absurd (false≢true (sym (ap is_some (ap (map.get after) same ∙ d.forgotten)) ∙ is)),
-          λ is. absurd (new (subst (IsKnown m) same is)),
-        )
-        | inr apart ↦
-            let as_before : is_some (map.get after q) ≡ is_some (map.get m q) = d.known q apart ∙ ap is_some (get_put_other m id no_sides q apart) in
-            (λ is. sym as_before ∙ is, λ is. as_before ∙ is)
-      ]
+      gone : StandsNowhere (map.insert m id no_sides) id
+      gone = stands_nowhere h
 
-      one_list : (here : Bool) (xs ys : List ℕ) → IsLeft here id xs ys → (Contains xs id → ⊥) → (q : ℕ) → Contains ys q ↔ Contains xs q
-      one_list true xs ys is gone q = (λ c. ((is.others q).0 c).0, λ c. (is.others q).1 (c, λ same. gone (subst (Contains xs) same c)))
-      one_list false xs ys is gone q = (λ c. subst (λ zs. Contains zs q) is c, λ c. subst (λ zs. Contains zs q) (sym is) c)
+      both : (o p : Option Sides) → is_some o ≡ is_some p → unwrap_or o no_sides ≡ unwrap_or p no_sides → o ≡ p
+      both None None e f = refl
+      both None (Some s) e f = cc
+      both (Some s) None e f = cc
+      both (Some s) (Some t) e f = ap Some f
 
-      side : (proj : Sides → List ℕ) → proj no_sides ≡ [] → (here : ℕ → Bool) → ((k : ℕ) → Contains (proj (sides_at m k)) id → ⊥) → ((k : ℕ) → k ≢ id → IsLeft (here k) id (proj (sides_at (map.insert m id no_sides) k)) (proj (sides_at after k))) → (k q : ℕ) → Contains (proj (sides_at after k)) q ↔ Contains (proj (sides_at m k)) q
-      side proj empty here gone is k q = elim (cases_eq k id) [
-        | inl same ↦
-            let after_empty : proj (sides_at after k) ≡ [] = ap (λ o. proj (unwrap_or o no_sides)) (ap (map.get after) same ∙ d.forgotten) ∙ empty in
-            let before_empty : proj (sides_at m k) ≡ [] = ap (λ o. proj (unwrap_or o no_sides)) (ap (map.get m) same ∙ not_known m id new) ∙ empty in
-            (λ c. absurd (in_nil q (subst (λ zs. Contains zs q) after_empty c)), λ c. absurd (in_nil q (subst (λ zs. Contains zs q) before_empty c)))
-        | inr apart ↦
-            let before : proj (sides_at (map.insert m id no_sides) k) ≡ proj (sides_at m k) = ap proj (sides_entered k) in
-            one_list (here k) (proj (sides_at m k)) (proj (sides_at after k)) (subst (λ zs. IsLeft (here k) id zs (proj (sides_at after k))) before (is k apart)) (gone k) q
-      ]
+      at_key : (q : ℕ) → (q ≡ id) ⊎ (q ≢ id) → map.get after q ≡ map.get m q
+      at_key q (inl same) = ap (map.get after) same ∙ d.forgotten ∙ sym (not_known m id new) ∙ ap (map.get m) (sym same)
+      at_key q (inr apart) =
+          let left = stays (q == r) _ _ (d.left q apart) (gone.left q) in
+          let right = stays (q == l) _ _ (d.right q apart) (gone.right q) in
+          let left_star = stays (q == r) _ _ (d.left_star q apart) (gone.left_star q) in
+          let right_star = stays (q == l) _ _ (d.right_star q apart) (gone.right_star q) in
+          let sides : sides_at after q ≡ sides_at (map.insert m id no_sides) q = (λ i. record { left = left i; right = right i; left_star = left_star i; right_star = right_star i }) in
+          both (map.get after q) (map.get m q) (d.known q apart ∙ ap is_some (get_put_other m id no_sides q apart)) (sides ∙ sides_entered q)

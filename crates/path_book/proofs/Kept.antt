@@ -10,7 +10,7 @@ use Rattle.apsp_model.specs.Paths.{KeptPath, IsKeptIn, IsHistoricalIn, HasBirthI
 use Rattle.path_arena.specs.Arena.{Path, Arena, path_at, IsLive, no_path, path_of, list_of, with_path, without_path}
 use Rattle.path_arena.proofs.Keys.{tied_key, apart_key, get_put, get_put_other, get_gone, get_gone_other}
 use Rattle.path_arena.proofs.Paths.{live_path, live_from, live_apart, path_of_at}
-use Rattle.path_book.specs.Book.{Book, IsMarked, kept_path, kept_paths, with_kept, with_mark, without_kept, IsBook, IsNewList}
+use Rattle.path_book.specs.Book.{Book, IsMarked, kept_path, kept_paths, with_kept, with_mark, IsBook, IsNewList}
 use Rattle.fixup_math.proofs.Counting.{head_in, tail_in}
 use Rattle.path_book.proofs.Tables.{in_entries, in_map, to_map, rising_head, rising_tail}
 

@@ -9,7 +9,6 @@ use Rattle.fixup_math.proofs.Counting.{in_cons, in_nil, head_in}
 use Rattle.path_arena.specs.Arena.{Path, Arena, path_at, IsLive, no_path, path_of, with_path, without_path}
 use Rattle.path_arena.proofs.Keys.{get_put, get_put_other, get_gone, get_gone_other}
 use Rattle.extension_lists.specs.Known.{Sides, Known, no_sides, IsKnown, sides_at, change, added, starred, IsWithout, IsLeft, IsDropped}
-use Rattle.path_book.specs.Admitted.{StandsNowhere, HasSameLists, entered}
 
 -- ---- one list
 

@@ -1,9 +1,9 @@
 -- What a new path changes in the parts of a book. No public clause cites this module.
 use Rattle.std.specs.Prelude.{◌≡◌, ℕ, ◌↔◌, ◌≤◌, Some, Contains}
-use Rattle.std.specs.FinMap as map
 use Rattle.path_arena.specs.Arena.{Arena, left_of, right_of}
 use Rattle.pair_heaps.specs.Heaps.{Heaps, IsInserted, Fits, HasEnds, spare_at}
-use Rattle.extension_lists.specs.Known.{Known, IsKnown, sides_at, no_sides, added}
+use Rattle.extension_lists.specs.Known.{Known, IsKnown, sides_at}
+use Rattle.path_book.specs.Book.{entered}
 
 -- the id stands in no list
 pub record StandsNowhere (lists : Known) (id : ℕ) : Type 0 where
@@ -11,18 +11,6 @@ pub record StandsNowhere (lists : Known) (id : ℕ) : Type 0 where
   pub right : (k : ℕ) → Contains (sides_at lists k).right id → ⊥
   pub left_star : (k : ℕ) → Contains (sides_at lists k).left_star id → ⊥
   pub right_star : (k : ℕ) → Contains (sides_at lists k).right_star id → ⊥
-
--- the same ids are known, and the lists of each hold the same ids
-pub record HasSameLists (old new : Known) : Type 0 where
-  pub known : (id : ℕ) → IsKnown new id ↔ IsKnown old id
-  pub left : (k id : ℕ) → Contains (sides_at new k).left id ↔ Contains (sides_at old k).left id
-  pub right : (k id : ℕ) → Contains (sides_at new k).right id ↔ Contains (sides_at old k).right id
-  pub left_star : (k id : ℕ) → Contains (sides_at new k).left_star id ↔ Contains (sides_at old k).left_star id
-  pub right_star : (k id : ℕ) → Contains (sides_at new k).right_star id ↔ Contains (sides_at old k).right_star id
-
--- the lists with a new id, as an extension of l and of r
-abbrev pub entered : Known → ℕ → ℕ → ℕ → Known
-entered lists id l r = added (map.insert lists id no_sides) id l r
 
 -- lists that can take a new path of the arena
 pub record CanEnter (a : Arena) (lists : Known) (id : ℕ) : Type 0 where

@@ -5,8 +5,7 @@ use Rattle.std.specs.FinSet as set
 use Rattle.apsp_model.specs.Counts.{CountIs}
 use Rattle.path_arena.specs.Arena.{Arena, HasAnEdge, list_of}
 use Rattle.pair_heaps.specs.Heaps.{Heaps, held_at, Fits, HasEnds}
-use Rattle.extension_lists.specs.Known.{Known}
-use Rattle.path_book.specs.Book.{Book, IsMarked, IsBook, HasExtensions}
+use Rattle.path_book.specs.Book.{Book, IsBook}
 use Rattle.path_book.specs.declared.book.Book.TheInside.{Inside}
 
 -- the places of the marks, the first of which is k
@@ -22,7 +21,7 @@ abbrev pub mark_at : List Bool → ℕ → Bool
 mark_at marks id = slice_index_or marks id false
 
 abbrev pub view_of : Inside → Book
-view_of b = record { arena = b.arena; marked = marked_in b.marks.items }
+view_of b = record { arena = b.arena; marked = marked_in b.marks.items; lists = b.lists }
 
 -- each path with an edge is held once, of the pair of its ends, and nothing else is
 pub record HoldsPaths (a : Arena) (h : Heaps) : Type 0 where
@@ -35,13 +34,12 @@ abbrev pub IsCounted : Book → Bool → List ℕ → Type 0
 IsCounted b historical p = (id : ℕ) × HasAnEdge b.arena id × (list_of b.arena id ≡ p) × (set.contains b.marked id ≡ historical)
 
 -- the parts of a book keep what contracts see of it
-pub record IsStored (b : Book) (held : Heaps) (known : Known) (historical pending : ℕ) : Type 0 where
+pub record IsStored (b : Book) (held : Heaps) (historical pending : ℕ) : Type 0 where
   pub book : IsBook b
   pub heaps : HoldsPaths b.arena held
-  pub lists : HasExtensions b known
   pub historical_count : CountIs (IsCounted b true) historical
   pub pending_count : CountIs (IsCounted b false) pending
   pub most : historical + pending ≤ 2 ^ 48
 
 abbrev pub IsSound : Inside → Type 0
-IsSound b = IsStored (view_of b) b.heaps b.lists b.historical b.pending
+IsSound b = IsStored (view_of b) b.heaps b.historical b.pending

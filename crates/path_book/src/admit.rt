@@ -4,7 +4,8 @@ ghost use Rattle.std.specs.Prelude.{◌≡◌, ℕ, ◌≤◌, Some, OnOk, OnErr
 ghost use Rattle.path_arena.specs.Arena.{HasAnEdge, without_path, IsPartOfNone, IsArena};
 ghost use Rattle.pair_heaps.specs.Heaps.{IsHeld};
 ghost use Rattle.extension_lists.specs.Known.{IsKnown};
-ghost use Rattle.path_book.specs.Admitted.{StandsNowhere, HasSameLists, entered, CanEnter, HasRoom, IsAdmitted};
+ghost use Rattle.path_book.specs.Admitted.{StandsNowhere, CanEnter, HasRoom, IsAdmitted};
+ghost use Rattle.path_book.specs.Book.{entered};
 
 use apsp_model::Memory;
 use extension_lists::Lists;
@@ -29,7 +30,7 @@ pub(crate) fn admit(
     ensures admitted { OnOk result (IsAdmitted arena.new heaps.old heaps.new lists.old lists.new id) }
     ensures taken_back { OnErr result (arena.new ≡ without_path arena.old id) }
     ensures heaps_kept { OnErr result (heaps.new ≡ heaps.old) }
-    ensures lists_kept { OnErr result (HasSameLists lists.old lists.new) }
+    ensures lists_kept { OnErr result (lists.new ≡ lists.old) }
 {
     let (left, right) = (arena.left_part(id), arena.right_part(id));
     if enter(lists, id, left, right).is_err() {
@@ -48,7 +49,7 @@ fn enter(lists: &mut Lists, id: PathId, left: PathId, right: PathId) -> Result<(
     requires right_known { IsKnown lists.old right }
     requires nowhere { StandsNowhere lists.old id }
     ensures entered { OnOk result (lists.new ≡ entered lists.old id left right) }
-    ensures same { OnErr result (HasSameLists lists.old lists.new) }
+    ensures same { OnErr result (lists.new ≡ lists.old) }
 {
     lists.enter(id)?;
     match lists.add(id, left, right) {

@@ -4,7 +4,7 @@ ghost use Rattle.std.specs.Prelude.{◌≡◌, ◌≢◌, ℕ, ◌<◌, ◌≤�
 ghost use Rattle.std.specs.FinSet as set;
 ghost use Rattle.apsp_model.specs.Paths.{IsKeptIn, HasBirthIn};
 ghost use Rattle.path_arena.specs.Arena.{path_at, IsLive, HasAnEdge, edge_path, joined_path, IsPartOfNone, CanJoin};
-ghost use Rattle.path_book.specs.Book.{IsBook, IsMarked, IsOpening, kept_paths, IsNewList, with_kept, with_mark, without_kept, HasExtensions, IsLeastKept, KeepsNone, PathsCount, HistoricalCount};
+ghost use Rattle.path_book.specs.Book.{IsBook, IsMarked, IsOpening, kept_paths, IsNewList, with_kept, with_mark, IsForgotten, IsLeastKept, KeepsNone, PathsCount, HistoricalCount};
 
 use crate::admit::admit;
 use crate::marks::make_room;
@@ -136,7 +136,7 @@ impl Book {
     pub fn forget(&mut self, id: PathId)
         requires edge { HasAnEdge self.old.arena id }
         requires free { IsPartOfNone self.old.arena id }
-        ensures forgotten { self.new ≡ without_kept self.old id }
+        ensures forgotten { IsForgotten self.old self.new id }
         ensures lawful { IsBook self.new }
     {
         let (left, right) = (self.arena.left_part(id), self.arena.right_part(id));
@@ -183,7 +183,7 @@ impl Book {
 
     /// The extensions of the kept paths by one edge, and the historical ones of them.
     pub fn lists(&self) -> &Lists
-        ensures lent { HasExtensions self.now result.now }
+        ensures lent { result.now ≡ self.now.lists }
         ensures lawful { IsBook self.now }
     {
         &self.lists
