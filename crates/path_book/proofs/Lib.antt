@@ -5,3 +5,7 @@ pub mod Places
 pub mod Sides
 pub mod Entering
 pub mod Admitting
+pub mod Formed
+pub mod Counts
+pub mod Promoted
+pub mod Forgotten

@@ -144,3 +144,17 @@ known_two m l r f g q known_l known_r = (
   ],
   λ h. (known_put (change m l f) r (g (sides_at (change m l f) r)) q).1 (inl ((known_put m l (f (sides_at m l)) q).1 (inl h))),
 )
+
+-- neither change touches the list
+pub sides_of_two_kept : (m : Known) (l r : ℕ) (f g : Sides → Sides) (proj : Sides → List ℕ) (k : ℕ) → ((s : Sides) → proj (f s) ≡ proj s) → ((s : Sides) → proj (g s) ≡ proj s) → proj (sides_at (change (change m l f) r g) k) ≡ proj (sides_at m k)
+sides_of_two_kept m l r f g proj k first_kept second_kept = second (cases_eq k r)
+  where
+    first : (j : ℕ) → (j ≡ l) ⊎ (j ≢ l) → proj (sides_at (change m l f) j) ≡ proj (sides_at m j)
+    first j (inl same) = ap (λ i. proj (sides_at (change m l f) i)) same ∙ ap proj (sides_changed m l f) ∙ first_kept (sides_at m l) ∙ ap (λ i. proj (sides_at m i)) (sym same)
+    first j (inr apart) = ap proj (sides_other m l (f (sides_at m l)) j apart)
+
+    second : (k ≡ r) ⊎ (k ≢ r) → proj (sides_at (change (change m l f) r g) k) ≡ proj (sides_at m k)
+    second (inl same) =
+        ap (λ j. proj (sides_at (change (change m l f) r g) j)) same ∙ ap proj (sides_changed (change m l f) r g) ∙ second_kept (sides_at (change m l f) r)
+        ∙ ap (λ j. proj (sides_at (change m l f) j)) (sym same) ∙ first k (cases_eq k l)
+    second (inr apart) = ap proj (sides_other (change m l f) r (g (sides_at (change m l f) r)) k apart) ∙ first k (cases_eq k l)
