@@ -9,3 +9,5 @@ pub mod Formed
 pub mod Counts
 pub mod Promoted
 pub mod Forgotten
+pub mod Readers
+pub mod Forms

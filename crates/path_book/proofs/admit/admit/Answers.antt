@@ -1,7 +1,5 @@
 use Rattle.std.proofs.Common.{sym, ◌∙◌}
 use Rattle.path_book.proofs.Admitting.{admitted}
-use Rattle.path_book.proofs.Formed.{stored_formed}
-use Rattle.path_book.proofs.Forgotten.{book_left}
 use Rattle.path_book.proofs.admit.admit.Goals as goal
 
 pub returns-clause-admitted : goal.returns-clause-admitted
