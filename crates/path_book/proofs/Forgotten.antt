@@ -1,26 +1,62 @@
 -- A book with one kept path less.
-use Rattle.std.specs.Prelude.{◌≡◌, ◌≢◌, ℕ, ◌+◌, ◌-◌, ◌^◌, ◌<◌, ◌≤◌, ◌⊎◌, ◌↔◌, Bool, true, false, IsTrue, not, ◌==◌, List, [], ◌∷◌, Option, Some, None, IsSome, is_some, unwrap_or, refl, Contains}
+use Rattle.std.specs.Prelude.{◌≡◌, ◌≢◌, ℕ, ◌+◌, ◌-◌, ◌^◌, ◌<◌, ◌≤◌, ◌⊎◌, ◌↔◌, Bool, true, false, IsTrue, not, ◌==◌, if◌then◌else◌, List, [], ◌∷◌, Option, Some, None, IsSome, is_some, unwrap_or, refl, Contains}
 use Rattle.std.specs.FinMap as map
 use Rattle.std.specs.FinSet as set
 use Rattle.std.proofs.Common.{sym, ◌∙◌, ap, subst, arith, inl, inr}
 use Rattle.std.proofs.lemmas.Bool.{cases_eq, cases_Bool, false≢true, true≢false, eq-eqb, eqb-true}
 use Rattle.apsp_model.specs.Walk.{first, last}
 use Rattle.apsp_model.specs.Counts.{CountIs}
-use Rattle.fixup_math.proofs.Counting.{count_same, in_nil}
+use Rattle.fixup_math.proofs.Counting.{count_same, in_nil, head_in}
 use Rattle.path_arena.specs.Arena.{Path, Arena, path_at, vertex_of, IsLive, no_path, path_of, list_of, left_of, right_of, weight_of, HasAnEdge, single, without_path, IsPartOfNone}
 use Rattle.path_arena.proofs.Keys.{get_gone, get_gone_other}
 use Rattle.path_arena.proofs.Paths.{IsArena-without, live_path, live_from, live_from_edge, path_of_at}
 use Rattle.pair_heaps.specs.Heaps.{Heaps, held_at, Fits, HasEnds, IsHeld, IsRemoved, AgreeOnHeld}
 use Rattle.pair_heaps.proofs.Fits.{fits_agree}
-use Rattle.extension_lists.specs.Known.{Sides, Known, no_sides, IsKnown, sides_at, IsDropped, IsLeft}
+use Rattle.extension_lists.specs.Known.{Sides, Known, no_sides, IsKnown, sides_at, IsDropped, IsLeft, StandsOnlyAt}
 use Rattle.path_book.specs.Book.{Book, IsMarked, left_id, right_id, HasExtensions, IsBook, IsForgotten}
-use Rattle.path_book.specs.Layout.{HoldsPaths, IsCounted, IsStored}
+use Rattle.path_book.specs.Layout.{marked_in, mark_at, HoldsPaths, IsCounted, IsStored}
+use Rattle.path_book.proofs.Places.{contains-marked_in}
 use Rattle.path_book.proofs.Sets.{marked_gone, marked_gone_other}
 use Rattle.path_book.proofs.Sides.{shrunk, part_taken}
 use Rattle.path_book.proofs.Counts.{count_less}
 use Rattle.path_book.proofs.Admitting.{ends_of}
 use Rattle.path_book.proofs.Formed.{same_pair, ends_alike}
 use Rattle.path_book.proofs.Promoted.{left_is, right_is}
+
+-- ---- what taking the id out asks for
+
+nothing_in : (xs : List ℕ) → ((q : ℕ) → Contains xs q → ⊥) → xs ≡ []
+nothing_in [] none = refl
+nothing_in (x ∷ xs) none = absurd (none x (head_in x x xs refl))
+
+pub empty_lists : (b : Book) (id : ℕ) → IsBook b → IsPartOfNone b.arena id → sides_at b.lists id ≡ no_sides
+empty_lists b id was free =
+    let left = nothing_in (sides_at b.lists id).left (λ q c. free.right q ((was.extensions.left id q).0 c)) in
+    let right = nothing_in (sides_at b.lists id).right (λ q c. free.left q ((was.extensions.right id q).0 c)) in
+    let left_star = nothing_in (sides_at b.lists id).left_star (λ q c. free.right q ((was.extensions.left_star id q).0 c).0) in
+    let right_star = nothing_in (sides_at b.lists id).right_star (λ q c. free.left q ((was.extensions.right_star id q).0 c).0) in
+    λ i. record { left = left i; right = right i; left_star = left_star i; right_star = right_star i }
+
+pub stands_only : (b : Book) (id l r : ℕ) → IsBook b → left_of b.arena id ≡ Some l → right_of b.arena id ≡ Some r → StandsOnlyAt b.lists id l r
+stands_only b id l r was left right = record {
+  left = λ k c. at_right k ((was.extensions.left k id).0 c);
+  right = λ k c. at_left k ((was.extensions.right k id).0 c);
+  left_star = λ k c. at_right k ((was.extensions.left_star k id).0 c).0;
+  right_star = λ k c. at_left k ((was.extensions.right_star k id).0 c).0;
+}
+  where
+    at_left : (k : ℕ) → left_of b.arena id ≡ Some k → k ≡ l
+    at_left k e = let two : Some k ≡ Some l = sym e ∙ left in cc
+
+    at_right : (k : ℕ) → right_of b.arena id ≡ Some k → k ≡ r
+    at_right k e = let two : Some k ≡ Some r = sym e ∙ right in cc
+
+pub is_held : (b : Book) (h : Heaps) (id : ℕ) → IsBook b → HoldsPaths b.arena h → HasAnEdge b.arena id → IsHeld h id
+is_held b h id was holds edge =
+    let ends = ends_of b.arena id was.arena edge in
+    (ends.0, ends.1, holds.held id ends.0 ends.1 edge ends.2)
+
+-- ---- what is left
 
 module _ (b : Book) (id : ℕ) (lists : Known) (was : IsBook b) (edge : HasAnEdge b.arena id) (free : IsPartOfNone b.arena id) (dropped : IsDropped b.lists lists id (left_id (path_of b.arena id)) (right_id (path_of b.arena id))) where
   abbrev pub left_over : Book
@@ -218,3 +254,48 @@ module _ (b : Book) (id : ℕ) (lists : Known) (was : IsBook b) (edge : HasAnEdg
         )),
         λ h. ((counted_left historical q).0 h).0,
       )) c
+
+  pub stored_left : (h k : Heaps) (historical pending : ℕ) → IsStored b h historical pending → Fits k b.arena → ((x y : ℕ) → HasEnds b.arena id x y → IsRemoved h k id x y) → (mark : Bool) → set.contains b.marked id ≡ mark → (1 ≤ (if mark then historical else pending)) × IsStored left_over k (if mark then historical - 1 else historical) (if mark then pending else pending - 1)
+  stored_left h k historical pending stored fits removed true is =
+      let own = own_count_left true historical is stored.historical_count in
+      let some : 1 ≤ historical = own.0 in
+      let most : historical + pending ≤ 2 ^ 48 = stored.most in
+      (some, record {
+        book = book_left;
+        heaps = heaps_left h k stored.heaps fits removed;
+        historical_count = own.1;
+        pending_count = other_count_left false pending (λ e. true≢false (sym is ∙ e)) stored.pending_count;
+        most = omega arith;
+      })
+  stored_left h k historical pending stored fits removed false is =
+      let own = own_count_left false pending is stored.pending_count in
+      let some : 1 ≤ pending = own.0 in
+      let most : historical + pending ≤ 2 ^ 48 = stored.most in
+      (some, record {
+        book = book_left;
+        heaps = heaps_left h k stored.heaps fits removed;
+        historical_count = other_count_left true historical (λ e. false≢true (sym is ∙ e)) stored.historical_count;
+        pending_count = own.1;
+        most = omega arith;
+      })
+
+-- what the parts of a book are after a path is forgotten, where its mark was this
+pub record LeftOver (b : Book) (id : ℕ) (heaps : Heaps) (arena : Arena) (lists : Known) (marks : List Bool) (historical pending : ℕ) (mark : Bool) : Type 0 where
+  pub some : 1 ≤ (if mark then historical else pending)
+  pub stored : IsStored (record { arena = arena; marked = marked_in marks; lists = lists }) heaps (if mark then historical - 1 else historical) (if mark then pending else pending - 1)
+  pub forgotten : IsForgotten b (record { arena = arena; marked = marked_in marks; lists = lists }) id
+
+pub left_over_now : (b : Book) (id key : ℕ) (h k : Heaps) (arena : Arena) (l r : ℕ) (lists : Known) (before after : List Bool) (historical pending : ℕ) (mark : Bool) → IsStored b h historical pending → HasAnEdge b.arena id → IsPartOfNone b.arena id → marked_in before ≡ b.marked → key ≡ id → arena ≡ without_path b.arena id → left_of b.arena id ≡ Some l → right_of b.arena id ≡ Some r → IsDropped b.lists lists id l r → Fits k b.arena → ((x y : ℕ) → HasEnds b.arena id x y → IsRemoved h k id x y) → mark ≡ mark_at before key → marked_in after ≡ set.remove (marked_in before) key → LeftOver b id k arena lists after historical pending mark
+left_over_now b id key h k arena l r lists before after historical pending mark stored edge free marks here taken left right dropped fits removed was cleared =
+    let to_l : l ≡ left_id (path_of b.arena id) = ap (λ o. unwrap_or o 0) (sym left) in
+    let to_r : r ≡ right_id (path_of b.arena id) = ap (λ o. unwrap_or o 0) (sym right) in
+    let drops : IsDropped b.lists lists id (left_id (path_of b.arena id)) (right_id (path_of b.arena id)) = subst (λ x. IsDropped b.lists lists id x (right_id (path_of b.arena id))) to_l (subst (λ x. IsDropped b.lists lists id l x) to_r dropped) in
+    let marked : marked_in after ≡ set.remove b.marked id = cleared ∙ (λ i. set.remove (marks i) (here i)) in
+    let is_mark : set.contains b.marked id ≡ mark = sym (λ i. set.contains (marks i) (here i)) ∙ contains-marked_in before key ∙ sym was in
+    let both = stored_left b id lists stored.book edge free drops h k historical pending stored fits removed mark is_mark in
+    let books : ◌≡◌ {A = Book} (record { arena = arena; marked = marked_in after; lists = lists }) (record { arena = without_path b.arena id; marked = set.remove b.marked id; lists = lists }) = (λ i. record { arena = taken i; marked = marked i; lists = lists }) in
+    record {
+      some = both.0;
+      stored = subst (λ c. IsStored c k (if mark then historical - 1 else historical) (if mark then pending else pending - 1)) (sym books) both.1;
+      forgotten = record { arena = taken; marked = marked; lists = drops };
+    }

@@ -4,9 +4,9 @@ use Rattle.std.specs.List.{list_any}
 use Rattle.std.specs.Ordering.{nat_cmp}
 use Rattle.std.specs.FinSet as set
 use Rattle.std.proofs.Common.{sym, ◌∙◌, ap, subst, arith, inl, inr}
-use Rattle.std.proofs.lemmas.Bool.{cases_eq, ne_eqb, eq-eqb}
+use Rattle.std.proofs.lemmas.Bool.{cases_eq, cases_lt, false≢true, ne_eqb, eq-eqb}
 use Rattle.std.proofs.lemmas.Cmp.{nat_cmp_total}
-use Rattle.std.proofs.lemmas.List.{get_or-set_same, get_or-set_other}
+use Rattle.std.proofs.lemmas.List.{get_or-set_same, get_or-set_other, get_or_past}
 use Rattle.path_book.specs.Layout.{places_from, marked_in, mark_at}
 use Rattle.path_book.proofs.Sets.{same_put, same_gone}
 
@@ -52,3 +52,14 @@ marked_longer marks = ap (λ ps. set.from_list ps) (places_longer 0 marks)
     places_longer k [] = refl
     places_longer k (true ∷ ms) = ap (λ ps. k ∷ ps) (places_longer (k + 1) ms)
     places_longer k (false ∷ ms) = places_longer (k + 1) ms
+
+-- a key with a mark has a place
+pub mark_within : (marks : List Bool) (key : ℕ) → mark_at marks key ≡ true → key < length marks
+mark_within marks key e = elim (cases_lt key (length marks)) [
+  | inl less ↦ less
+  | inr past ↦ absurd (let none : mark_at marks key ≡ false = get_or_past marks key false past in false≢true (sym none ∙ e))
+]
+
+-- a set without a key stays where that is taken out
+pub marked_without : (marks : List Bool) (key : ℕ) → mark_at marks key ≡ false → marked_in marks ≡ set.remove (marked_in marks) key
+marked_without marks key e = same_gone (marked_in marks) (marked_in marks) key (contains-marked_in marks key ∙ e) (λ q apart. refl)

@@ -1,5 +1,5 @@
 -- A book in which one more path is historical.
-use Rattle.std.specs.Prelude.{◌≡◌, ◌≢◌, ℕ, ◌+◌, ◌-◌, ◌^◌, ◌<◌, ◌≤◌, ◌⊎◌, ◌↔◌, Bool, true, false, IsTrue, ◌==◌, List, [], ◌∷◌, ◌++◌, Option, Some, None, IsSome, is_some, unwrap_or, refl, Contains}
+use Rattle.std.specs.Prelude.{◌≡◌, ◌≢◌, ℕ, ◌+◌, ◌-◌, ◌^◌, ◌<◌, ◌≤◌, ◌⊎◌, ◌↔◌, Bool, true, false, IsTrue, ◌==◌, List, [], ◌∷◌, ◌++◌, length, slice_set, Option, Some, None, IsSome, is_some, unwrap_or, refl, Contains}
 use Rattle.std.specs.FinSet as set
 use Rattle.std.proofs.Common.{sym, ◌∙◌, ap, subst, arith, inl, inr}
 use Rattle.std.proofs.lemmas.Bool.{cases_eq, false≢true, eq-eqb, eqb-true}
@@ -10,10 +10,11 @@ use Rattle.path_arena.proofs.Paths.{Parted, parted, live_from_edge}
 use Rattle.pair_heaps.specs.Heaps.{Heaps}
 use Rattle.extension_lists.specs.Known.{Sides, Known, IsKnown, sides_at, starred}
 use Rattle.path_book.specs.Book.{Book, IsMarked, left_id, right_id, with_mark, HasExtensions, IsBook}
-use Rattle.path_book.specs.Layout.{IsCounted, IsStored}
+use Rattle.path_book.specs.Layout.{marked_in, IsCounted, IsStored}
 use Rattle.path_book.proofs.Sets.{marked_put, marked_put_other}
 use Rattle.path_book.proofs.Sides.{grown, sides_of_two, sides_of_two_later, sides_of_two_kept, known_two}
 use Rattle.path_book.proofs.Counts.{count_less}
+use Rattle.path_book.proofs.Places.{marked_set}
 
 some_of : (o : Option ℕ) → IsSome o → o ≡ Some (unwrap_or o 0)
 some_of None h = absurd (false≢true h)
@@ -146,3 +147,12 @@ module _ (b : Book) (id : ℕ) (was : IsBook b) (edge : HasAnEdge b.arena id) (p
         pending_count = less.1;
         most = omega arith;
       })
+
+-- the book with a mark set and the starred lists longer
+pub is_promoted : (b : Book) (marks : List Bool) (id key l r : ℕ) (lists : Known) → marked_in marks ≡ b.marked → key ≡ id → key < length marks → left_of b.arena id ≡ Some l → right_of b.arena id ≡ Some r → lists ≡ starred b.lists id l r → ◌≡◌ {A = Book} (record { arena = b.arena; marked = marked_in (slice_set marks key true); lists = lists }) (with_mark b id)
+is_promoted b marks id key l r lists same here room left right is =
+    let marked : marked_in (slice_set marks key true) ≡ set.insert b.marked id = marked_set marks key room ∙ (λ i. set.insert (same i) (here i)) in
+    let to_l : l ≡ left_id (path_of b.arena id) = ap (λ o. unwrap_or o 0) (sym left) in
+    let to_r : r ≡ right_id (path_of b.arena id) = ap (λ o. unwrap_or o 0) (sym right) in
+    let starred_is : lists ≡ starred b.lists id (left_id (path_of b.arena id)) (right_id (path_of b.arena id)) = is ∙ (λ i. starred b.lists id (to_l i) (to_r i)) in
+    λ i. record { arena = b.arena; marked = marked i; lists = starred_is i }

@@ -139,3 +139,10 @@ least_single b was x l =
         not_below_itself b.arena (vertex_of b.arena x) (subst (λ j. id_cmp b.arena j (vertex_of b.arena x) ≡ Less) same below)
       );
     }
+
+-- a path that is not historical has an edge
+pub pending_has_edge : (b : Book) (id : ℕ) → IsBook b → IsLive b.arena id → (IsMarked b id → ⊥) → HasAnEdge b.arena id
+pending_has_edge b id was live pending = elim (single_or_edge b.arena id was.arena live) [
+  | inl one ↦ absurd (pending (subst (IsMarked b) (sym one.2) (was.singles one.0 one.1)))
+  | inr edge ↦ edge
+]

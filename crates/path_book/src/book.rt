@@ -7,7 +7,7 @@ ghost use Rattle.path_arena.specs.Arena.{path_at, IsLive, HasAnEdge, edge_path, 
 ghost use Rattle.path_book.specs.Book.{IsBook, IsMarked, IsOpening, kept_paths, IsNewList, with_kept, with_mark, IsForgotten, IsLeastKept, KeepsNone, PathsCount, HistoricalCount};
 
 use crate::admit::admit;
-use crate::marks::make_room;
+use crate::marks::{clear, is_marked, make_room};
 use apsp_model::{MOST_VERTICES, Memory};
 use extension_lists::Lists;
 use pair_heaps::Heaps;
@@ -140,15 +140,14 @@ impl Book {
         ensures lawful { IsBook self.new }
     {
         let (left, right) = (self.arena.left_part(id), self.arena.right_part(id));
-        if self.is_historical(id) {
-            self.marks[id.key()] = false;
+        self.heaps.remove(&self.arena, id);
+        self.lists.drop_id(id, left, right);
+        self.arena.remove(id);
+        if clear(&mut self.marks, id.key()) {
             self.historical -= 1;
         } else {
             self.pending -= 1;
         }
-        self.heaps.remove(&self.arena, id);
-        self.lists.drop_id(id, left, right);
-        self.arena.remove(id);
     }
 
     /// The kept path of the pair that none of them is below. From x to x it is the single vertex.
@@ -170,7 +169,7 @@ impl Book {
         ensures value { result ≡ set.contains self.now.marked id }
         ensures lawful { IsBook self.now }
     {
-        self.marks.get(id.key()).copied().unwrap_or(false)
+        is_marked(&self.marks, id.key())
     }
 
     /// The records of the kept paths.
