@@ -11,3 +11,5 @@ pub mod Promoted
 pub mod Forgotten
 pub mod Readers
 pub mod Forms
+pub mod Lookups
+pub mod Opening

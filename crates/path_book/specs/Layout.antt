@@ -1,10 +1,12 @@
 -- How a book lays out its parts. No public clause cites this module.
-use Rattle.std.specs.Prelude.{◌≡◌, ℕ, ◌+◌, ◌<◌, ◌≤◌, ◌^◌, ◌↔◌, Bool, true, false, IsTrue, List, [], ◌∷◌, slice_index_or, Contains}
+use Rattle.std.specs.Prelude.{◌≡◌, ℕ, ◌+◌, ◌<◌, ◌≤◌, ◌^◌, ◌↔◌, Bool, true, false, IsTrue, List, [], ◌∷◌, slice_index_or, Some, Contains}
 use Rattle.std.specs.Ordering.{nat_cmp}
 use Rattle.std.specs.FinSet as set
+use Rattle.apsp_model.specs.Walk.{last}
 use Rattle.apsp_model.specs.Counts.{CountIs}
-use Rattle.path_arena.specs.Arena.{Arena, HasAnEdge, list_of}
+use Rattle.path_arena.specs.Arena.{Arena, HasAnEdge, vertex_of, list_of, left_of}
 use Rattle.pair_heaps.specs.Heaps.{Heaps, held_at, Fits, HasEnds}
+use Rattle.extension_lists.specs.Known.{Known, no_sides, IsKnown, sides_at}
 use Rattle.path_book.specs.Book.{Book, IsBook}
 use Rattle.path_book.specs.declared.book.Book.TheInside.{Inside}
 
@@ -43,3 +45,15 @@ pub record IsStored (b : Book) (held : Heaps) (historical pending : ℕ) : Type 
 
 abbrev pub IsSound : Inside → Type 0
 IsSound b = IsStored (view_of b) b.heaps b.historical b.pending
+
+-- the path of an id is that of another with v behind it
+abbrev pub IsExtensionTo : Arena → ℕ → ℕ → ℕ → Type 0
+IsExtensionTo a id v longer = (left_of a longer ≡ Some id) × (last (list_of a longer) ≡ Some v)
+
+-- the lists know, and the marks mark, exactly the single vertices below v
+pub record IsOpenedTo (a : Arena) (lists : Known) (marks : List Bool) (v : ℕ) : Type 0 where
+  pub known : (id : ℕ) → IsKnown lists id → (u : ℕ) × (u < v) × (id ≡ vertex_of a u)
+  pub to_known : (u : ℕ) → u < v → IsKnown lists (vertex_of a u)
+  pub empty : (id : ℕ) → sides_at lists id ≡ no_sides
+  pub marked : (id : ℕ) → IsTrue (set.contains (marked_in marks) id) → (u : ℕ) × (u < v) × (id ≡ vertex_of a u)
+  pub to_marked : (u : ℕ) → u < v → IsTrue (set.contains (marked_in marks) (vertex_of a u))

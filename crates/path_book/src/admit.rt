@@ -1,12 +1,15 @@
 //! A new path is put into the parts of a book.
 
-ghost use Rattle.std.specs.Prelude.{◌≡◌, ℕ, ◌≤◌, Some, OnOk, OnErr};
+ghost use Rattle.std.specs.Prelude.{◌≡◌, ℕ, ◌≤◌, Some, [], OnOk, OnErr};
+ghost use Rattle.std.specs.FinMap as map;
 ghost use Rattle.path_arena.specs.Arena.{HasAnEdge, without_path, IsPartOfNone, IsArena};
 ghost use Rattle.pair_heaps.specs.Heaps.{IsHeld};
 ghost use Rattle.extension_lists.specs.Known.{IsKnown};
 ghost use Rattle.path_book.specs.Admitted.{StandsNowhere, CanEnter, HasRoom, IsAdmitted};
 ghost use Rattle.path_book.specs.Book.{entered};
+ghost use Rattle.path_book.specs.Layout.{IsOpenedTo};
 
+use crate::marks::make_room;
 use apsp_model::Memory;
 use extension_lists::Lists;
 use pair_heaps::Heaps;
@@ -59,4 +62,25 @@ fn enter(lists: &mut Lists, id: PathId, left: PathId, right: PathId) -> Result<(
             Err(memory)
         }
     }
+}
+
+/// Lets the lists know the single vertices, and marks them.
+pub(crate) fn enter_vertices(
+    arena: &Arena,
+    lists: &mut Lists,
+    marks: &mut Vec<bool>,
+    n: u32,
+) -> Result<(), Memory>
+    requires vertices { arena.now.vertices ≡ n }
+    requires no_lists { lists.old ≡ map.empty }
+    requires no_marks { marks.old.items ≡ [] }
+    ensures { OnOk result (IsOpenedTo arena.now lists.new marks.new.items n) }
+{
+    for v in 0..n {
+        let id = arena.vertex(v);
+        lists.enter(id)?;
+        make_room(marks, id.key())?;
+        marks[id.key()] = true;
+    }
+    Ok(())
 }

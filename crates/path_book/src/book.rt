@@ -1,12 +1,12 @@
 //! The book of kept paths.
 
-ghost use Rattle.std.specs.Prelude.{◌≡◌, ◌≢◌, ℕ, ◌<◌, ◌≤◌, ◌^◌, ◌↔◌, ◌∷◌, [], All, Some, IsTrue, IfOk, OnOk, OnErr, MatchOption, Contains, length};
+ghost use Rattle.std.specs.Prelude.{◌≡◌, ◌≢◌, ℕ, ◌<◌, ◌≤◌, ◌^◌, ◌↔◌, ◌∷◌, [], All, Some, IfNone, IfOk, IfSome, OnOk, OnErr, MatchOption, Contains, length};
 ghost use Rattle.std.specs.FinSet as set;
 ghost use Rattle.apsp_model.specs.Paths.{IsKeptIn, HasBirthIn};
 ghost use Rattle.path_arena.specs.Arena.{path_at, IsLive, HasAnEdge, edge_path, joined_path, IsPartOfNone, CanJoin};
 ghost use Rattle.path_book.specs.Book.{IsBook, IsMarked, IsOpening, kept_paths, IsNewList, with_kept, with_mark, IsForgotten, IsLeastKept, KeepsNone, PathsCount, HistoricalCount};
 
-use crate::admit::admit;
+use crate::admit::{admit, enter_vertices};
 use crate::marks::{clear, is_marked, make_room};
 use apsp_model::{MOST_VERTICES, Memory};
 use extension_lists::Lists;
@@ -46,6 +46,8 @@ impl Model for Book {
 }
 
 impl Book {
+    ghost use Rattle.path_book.specs.Layout.{IsExtensionTo};
+
     /// Keeps the single vertices.
     pub fn new(alloc: Global, n: u32) -> Result<Book, Memory>
         requires some { 1 ≤ n }
@@ -57,12 +59,7 @@ impl Book {
         let heaps = Heaps::new(alloc, n)?;
         let mut lists = Lists::new(alloc);
         let mut marks = Vec::new(alloc);
-        for v in 0..n {
-            let id = arena.vertex(v);
-            lists.enter(id)?;
-            make_room(&mut marks, id.key())?;
-            marks[id.key()] = true;
-        }
+        enter_vertices(&arena, &mut lists, &mut marks, n)?;
         Ok(Book {
             arena,
             heaps,
@@ -224,11 +221,14 @@ impl Book {
     /// The kept path that goes on to v behind a kept path.
     fn extension(&self, id: PathId, v: u32) -> Option<PathId>
         requires { IsLive self.now.arena id }
+        ensures found { IfSome result (IsExtensionTo self.now.arena id v) }
+        ensures none { IfNone result ((q : ℕ) → IsExtensionTo self.now.arena id v q → ⊥) }
     {
-        let extensions = self.lists.right(id);
-        extensions
-            .iter()
-            .copied()
-            .find(|&longer| self.arena.last(longer) == v)
+        for &longer in self.lists.right(id) {
+            if self.arena.last(longer) == v {
+                return Some(longer);
+            }
+        }
+        None
     }
 }
