@@ -31,8 +31,8 @@ admitted a old new lists later id l r h edge room left right (Ok t) fine done (O
   fits = fits;
   inserted = ok;
   entered_lists = λ k q is_left is_right. (
-    let same_l : l ≡ k = (let two : Some l ≡ Some k = sym left ∙ is_left in cc) in
-    let same_r : r ≡ q = (let two : Some r ≡ Some q = sym right ∙ is_right in cc) in
-    done ∙ (λ i. entered lists id (same_l i) (same_r i))
-  );
+      let same_l : l ≡ k = (let two : Some l ≡ Some k = sym left ∙ is_left in cc) in
+      let same_r : r ≡ q = (let two : Some r ≡ Some q = sym right ∙ is_right in cc) in
+      done ∙ (λ i. entered lists id (same_l i) (same_r i))
+      );
 }

@@ -45,13 +45,15 @@ pub count_less : (P Q : List ℕ → Type 0) (a : ℕ) (p : List ℕ) → P p �
 count_less P Q a p has e c =
     let w : Taken c.lists p = taken c.lists p c.once ((c.exact p).1 has) in
     let long : length c.lists ≡ length w.rest + 1 = w.shorter in
-    let is : length c.lists ≡ a = c.length_is in
-    (omega arith, record {
-      lists = w.rest;
-      once = w.once;
-      exact = λ q. (
-        λ d. (let both = (w.exact q).0 d in (e q).1 ((c.exact q).0 both.0, both.1)),
-        λ h. (let both = (e q).0 h in (w.exact q).1 ((c.exact q).1 both.0, both.1)),
-      );
-      length_is = omega arith;
-    })
+    let is : length c.lists ≡ a = c.length_is in (
+      omega arith,
+      record {
+        lists = w.rest;
+        once = w.once;
+        exact = λ q. (
+          λ d. (let both = (w.exact q).0 d in (e q).1 ((c.exact q).0 both.0, both.1)),
+          λ h. (let both = (e q).0 h in (w.exact q).1 ((c.exact q).1 both.0, both.1)),
+        );
+        length_is = omega arith;
+      },
+    )

@@ -110,8 +110,7 @@ module _ (b : Book) (id : ℕ) (lists : Known) (was : IsBook b) (edge : HasAnEdg
   side : (proj : Sides → List ℕ) (part : Path → Option ℕ) (key : ℕ) (Old New : ℕ → ℕ → Type 0) → proj no_sides ≡ [] → part (path_of b.arena id) ≡ Some key → ((k q : ℕ) → Old k q → part (path_of b.arena q) ≡ Some k) → ((q : ℕ) → Old id q → ⊥) → ((k q : ℕ) → Contains (proj (sides_at b.lists k)) q ↔ Old k q) → ((k q : ℕ) → New k q ↔ (Old k q × (q ≢ id))) → ((k : ℕ) → k ≢ id → IsLeft (k == key) id (proj (sides_at b.lists k)) (proj (sides_at lists k))) → (k q : ℕ) → Contains (proj (sides_at lists k)) q ↔ New k q
   side proj part key Old New empty is means none old new left k q = elim (cases_eq k id) [
     | inl same ↦
-        let gone : proj (sides_at lists k) ≡ [] = ap (λ o. proj (unwrap_or o no_sides)) (ap (map.get lists) same ∙ dropped.forgotten) ∙ empty in
-        (
+        let gone : proj (sides_at lists k) ≡ [] = ap (λ o. proj (unwrap_or o no_sides)) (ap (map.get lists) same ∙ dropped.forgotten) ∙ empty in (
           λ c. absurd (in_nil q (subst (λ xs. Contains xs q) gone c)),
           λ h. absurd (none q (subst (λ j. Old j q) same ((new k q).0 h).0)),
         )
@@ -146,20 +145,20 @@ module _ (b : Book) (id : ℕ) (lists : Known) (was : IsBook b) (edge : HasAnEdg
   book_left = record {
     arena = IsArena-without b.arena id was.arena edge free;
     once = λ i j live_i live_j same. (
-      let old_i = (live_left i).0 live_i in
-      let old_j = (live_left j).0 live_j in
-      was.once i j old_i.0 old_j.0 (sym (ap (λ p. p.list) (path_of_old i old_i.1)) ∙ same ∙ ap (λ p. p.list) (path_of_old j old_j.1))
-    );
+        let old_i = (live_left i).0 live_i in
+        let old_j = (live_left j).0 live_j in
+        was.once i j old_i.0 old_j.0 (sym (ap (λ p. p.list) (path_of_old i old_i.1)) ∙ same ∙ ap (λ p. p.list) (path_of_old j old_j.1))
+        );
     marked_live = λ q mark. (let old = (marked_left q).0 mark in (live_left q).1 (was.marked_live q old.0, old.1));
     singles = λ v l. (marked_left (vertex_of b.arena v)).1 (was.singles v l, single_apart v l);
     left_marked = λ q k is. (
-      let old = (part_taken (λ p. p.left) refl b.arena id k q).0 is in
-      (marked_left k).1 (was.left_marked q k old.0, λ same. free.left q (old.0 ∙ ap Some same))
-    );
+        let old = (part_taken (λ p. p.left) refl b.arena id k q).0 is in
+        (marked_left k).1 (was.left_marked q k old.0, λ same. free.left q (old.0 ∙ ap Some same))
+        );
     right_marked = λ q k is. (
-      let old = (part_taken (λ p. p.right) refl b.arena id k q).0 is in
-      (marked_left k).1 (was.right_marked q k old.0, λ same. free.right q (old.0 ∙ ap Some same))
-    );
+        let old = (part_taken (λ p. p.right) refl b.arena id k q).0 is in
+        (marked_left k).1 (was.right_marked q k old.0, λ same. free.right q (old.0 ∙ ap Some same))
+        );
     extensions = extensions_left;
   }
 
@@ -230,14 +229,14 @@ module _ (b : Book) (id : ℕ) (lists : Known) (was : IsBook b) (edge : HasAnEdg
   counted_left : (historical : Bool) (q : List ℕ) → IsCounted left_over historical q ↔ (IsCounted b historical q × (q ≡ list_of b.arena id → ⊥))
   counted_left historical q = (
     λ h. (
-      let old = (edge_left h.0).0 h.1 in
-      let list : list_of b.arena h.0 ≡ q = sym (ap (λ p. p.list) (path_of_old h.0 old.1)) ∙ h.2 in
-      ((h.0, old.0, list, sym (marked_gone_other b.marked id h.0 old.1) ∙ h.3), λ same. old.1 (was.once h.0 id (live_from_edge b.arena h.0 was.arena old.0) live_id (list ∙ same)))
-    ),
+        let old = (edge_left h.0).0 h.1 in
+        let list : list_of b.arena h.0 ≡ q = sym (ap (λ p. p.list) (path_of_old h.0 old.1)) ∙ h.2 in
+        ((h.0, old.0, list, sym (marked_gone_other b.marked id h.0 old.1) ∙ h.3), λ same. old.1 (was.once h.0 id (live_from_edge b.arena h.0 was.arena old.0) live_id (list ∙ same)))
+        ),
     λ h. (
-      let apart : h.0.0 ≢ id = λ same. h.1 (sym h.0.2 ∙ ap (list_of b.arena) same) in
-      (h.0.0, (edge_left h.0.0).1 (h.0.1, apart), ap (λ p. p.list) (path_of_old h.0.0 apart) ∙ h.0.2, marked_gone_other b.marked id h.0.0 apart ∙ h.0.3)
-    ),
+        let apart : h.0.0 ≢ id = λ same. h.1 (sym h.0.2 ∙ ap (list_of b.arena) same) in
+        (h.0.0, (edge_left h.0.0).1 (h.0.1, apart), ap (λ p. p.list) (path_of_old h.0.0 apart) ∙ h.0.2, marked_gone_other b.marked id h.0.0 apart ∙ h.0.3)
+        ),
   )
 
   -- the count of the id's own kind falls, and the other stays
@@ -248,10 +247,13 @@ module _ (b : Book) (id : ℕ) (lists : Known) (was : IsBook b) (edge : HasAnEdg
   other_count_left historical n is_not c =
       count_same (IsCounted b historical) (IsCounted left_over historical) n
       (λ q. (
-        λ h. (counted_left historical q).1 (h, λ same. is_not (
-          let e : h.0 ≡ id = was.once h.0 id (live_from_edge b.arena h.0 was.arena h.1) live_id (h.2 ∙ same) in
-          sym (ap (set.contains b.marked) e) ∙ h.3
-        )),
+        λ h. (counted_left historical q).1 (
+          h,
+          λ same. is_not (
+              let e : h.0 ≡ id = was.once h.0 id (live_from_edge b.arena h.0 was.arena h.1) live_id (h.2 ∙ same) in
+              sym (ap (set.contains b.marked) e) ∙ h.3
+              ),
+        ),
         λ h. ((counted_left historical q).0 h).0,
       )) c
 
@@ -259,25 +261,29 @@ module _ (b : Book) (id : ℕ) (lists : Known) (was : IsBook b) (edge : HasAnEdg
   stored_left h k historical pending stored fits removed true is =
       let own = own_count_left true historical is stored.historical_count in
       let some : 1 ≤ historical = own.0 in
-      let most : historical + pending ≤ 2 ^ 48 = stored.most in
-      (some, record {
-        book = book_left;
-        heaps = heaps_left h k stored.heaps fits removed;
-        historical_count = own.1;
-        pending_count = other_count_left false pending (λ e. true≢false (sym is ∙ e)) stored.pending_count;
-        most = omega arith;
-      })
+      let most : historical + pending ≤ 2 ^ 48 = stored.most in (
+        some,
+        record {
+          book = book_left;
+          heaps = heaps_left h k stored.heaps fits removed;
+          historical_count = own.1;
+          pending_count = other_count_left false pending (λ e. true≢false (sym is ∙ e)) stored.pending_count;
+          most = omega arith;
+        },
+      )
   stored_left h k historical pending stored fits removed false is =
       let own = own_count_left false pending is stored.pending_count in
       let some : 1 ≤ pending = own.0 in
-      let most : historical + pending ≤ 2 ^ 48 = stored.most in
-      (some, record {
-        book = book_left;
-        heaps = heaps_left h k stored.heaps fits removed;
-        historical_count = other_count_left true historical (λ e. false≢true (sym is ∙ e)) stored.historical_count;
-        pending_count = own.1;
-        most = omega arith;
-      })
+      let most : historical + pending ≤ 2 ^ 48 = stored.most in (
+        some,
+        record {
+          book = book_left;
+          heaps = heaps_left h k stored.heaps fits removed;
+          historical_count = other_count_left true historical (λ e. false≢true (sym is ∙ e)) stored.historical_count;
+          pending_count = own.1;
+          most = omega arith;
+        },
+      )
 
 -- what the parts of a book are after a path is forgotten, where its mark was this
 pub record LeftOver (b : Book) (id : ℕ) (heaps : Heaps) (arena : Arena) (lists : Known) (marks : List Bool) (historical pending : ℕ) (mark : Bool) : Type 0 where

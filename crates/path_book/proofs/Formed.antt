@@ -106,8 +106,7 @@ module _ (b : Book) (id : ℕ) (p : Path) (was : IsBook b) (new : IsNew b id p) 
   known_now q =
       let old_l : IsKnown b.lists (left_id p) = (was.extensions.known (left_id p)).1 (was.marked_live (left_id p) new.left_marked) in
       let old_r : IsKnown b.lists (right_id p) = (was.extensions.known (right_id p)).1 (was.marked_live (right_id p) new.right_marked) in
-      let two = known_two m1 (left_id p) (right_id p) (λ s. record s { right = s.right ++ id ∷ [] }) (λ s. record s { left = s.left ++ id ∷ [] }) q (entered_still b.lists id gone (left_id p) old_l) (entered_still b.lists id gone (right_id p) old_r) in
-      (
+      let two = known_two m1 (left_id p) (right_id p) (λ s. record s { right = s.right ++ id ∷ [] }) (λ s. record s { left = s.left ++ id ∷ [] }) q (entered_still b.lists id gone (left_id p) old_l) (entered_still b.lists id gone (right_id p) old_r) in (
         λ h. elim ((known_put b.lists id no_sides q).0 (two.0 h)) [
           | inl before ↦ live_old q ((was.extensions.known q).0 before)
           | inr same ↦ subst (λ j. IsLive (with_path b.arena id p) j) (sym same) live_new

@@ -158,7 +158,7 @@ is_formed b id p h k historical pending now later lists stored new is kept adm r
     record {
       same = books;
       stored = subst (λ c. IsStored c k historical (pending + 1)) (sym books)
-        (stored_formed b id p stored.book new h h k b.lists lists historical pending stored stored.heaps (subst (λ a. IsAdmitted a h k b.lists lists id) arenas adm) room);
+          (stored_formed b id p stored.book new h h k b.lists lists historical pending stored stored.heaps (subst (λ a. IsAdmitted a h k b.lists lists id) arenas adm) room);
     }
 
 -- where there was no memory for it

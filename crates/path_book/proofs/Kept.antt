@@ -73,13 +73,13 @@ module _ (b : Book) where
       go [] sorted live list = tt
       go (e ∷ es) sorted live list = (
         λ j c same. (
-          let d = in_map (λ (d : ℕ × Path). kept_path b d.0 d.1) es j c in
-          let above : e.0 < d.0.0 = rising_head e es sorted d.0 d.1 in
-          let later : Contains (e ∷ es) d.0 = tail_in d.0 e es d.1 in
-          let first : Contains (e ∷ es) e = head_in e e es refl in
-          let lists : list_of b.arena d.0.0 ≡ list_of b.arena e.0 = list d.0 later ∙ ap (λ q. q.list) d.2 ∙ same ∙ sym (list e first) in
-          let ids : d.0.0 ≡ e.0 = h.once d.0.0 e.0 (live d.0 later) (live e first) lists in
-          omega arith
-        ),
+            let d = in_map (λ (d : ℕ × Path). kept_path b d.0 d.1) es j c in
+            let above : e.0 < d.0.0 = rising_head e es sorted d.0 d.1 in
+            let later : Contains (e ∷ es) d.0 = tail_in d.0 e es d.1 in
+            let first : Contains (e ∷ es) e = head_in e e es refl in
+            let lists : list_of b.arena d.0.0 ≡ list_of b.arena e.0 = list d.0 later ∙ ap (λ q. q.list) d.2 ∙ same ∙ sym (list e first) in
+            let ids : d.0.0 ≡ e.0 = h.once d.0.0 e.0 (live d.0 later) (live e first) lists in
+            omega arith
+            ),
         go es (rising_tail e es sorted) (λ d c. live d (tail_in d e es c)) (λ d c. list d (tail_in d e es c)),
       )

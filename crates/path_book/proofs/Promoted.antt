@@ -58,27 +58,27 @@ module _ (b : Book) (id : ℕ) (was : IsBook b) (edge : HasAnEdge b.arena id) (p
   pub extensions_promoted : HasExtensions b.arena (set.insert b.marked id) (starred b.lists id (left_id (path_of b.arena id)) (right_id (path_of b.arena id)))
   extensions_promoted = record {
     known = λ q. (
-      let two = known_two b.lists (left_id (path_of b.arena id)) (right_id (path_of b.arena id)) (λ s. record s { right_star = s.right_star ++ id ∷ [] }) (λ s. record s { left_star = s.left_star ++ id ∷ [] }) q (known_left b id was edge) (known_right b id was edge) in
-      (λ h. (was.extensions.known q).0 (two.0 h), λ live. two.1 ((was.extensions.known q).1 live))
-    );
+        let two = known_two b.lists (left_id (path_of b.arena id)) (right_id (path_of b.arena id)) (λ s. record s { right_star = s.right_star ++ id ∷ [] }) (λ s. record s { left_star = s.left_star ++ id ∷ [] }) q (known_left b id was edge) (known_right b id was edge) in
+        (λ h. (was.extensions.known q).0 (two.0 h), λ live. two.1 ((was.extensions.known q).1 live))
+        );
     left = λ k q. (
-      let same = sides_of_two_kept b.lists (left_id (path_of b.arena id)) (right_id (path_of b.arena id)) (λ s. record s { right_star = s.right_star ++ id ∷ [] }) (λ s. record s { left_star = s.left_star ++ id ∷ [] }) (λ s. s.left) k (λ s. refl) (λ s. refl) in
-      subst (λ xs. Contains xs q ↔ (right_of b.arena q ≡ Some k)) (sym same) (was.extensions.left k q)
-    );
+        let same = sides_of_two_kept b.lists (left_id (path_of b.arena id)) (right_id (path_of b.arena id)) (λ s. record s { right_star = s.right_star ++ id ∷ [] }) (λ s. record s { left_star = s.left_star ++ id ∷ [] }) (λ s. s.left) k (λ s. refl) (λ s. refl) in
+        subst (λ xs. Contains xs q ↔ (right_of b.arena q ≡ Some k)) (sym same) (was.extensions.left k q)
+        );
     right = λ k q. (
-      let same = sides_of_two_kept b.lists (left_id (path_of b.arena id)) (right_id (path_of b.arena id)) (λ s. record s { right_star = s.right_star ++ id ∷ [] }) (λ s. record s { left_star = s.left_star ++ id ∷ [] }) (λ s. s.right) k (λ s. refl) (λ s. refl) in
-      subst (λ xs. Contains xs q ↔ (left_of b.arena q ≡ Some k)) (sym same) (was.extensions.right k q)
-    );
+        let same = sides_of_two_kept b.lists (left_id (path_of b.arena id)) (right_id (path_of b.arena id)) (λ s. record s { right_star = s.right_star ++ id ∷ [] }) (λ s. record s { left_star = s.left_star ++ id ∷ [] }) (λ s. s.right) k (λ s. refl) (λ s. refl) in
+        subst (λ xs. Contains xs q ↔ (left_of b.arena q ≡ Some k)) (sym same) (was.extensions.right k q)
+        );
     left_star = λ k q.
-      grown (sides_at b.lists k).left_star (sides_at (starred b.lists id (left_id (path_of b.arena id)) (right_id (path_of b.arena id))) k).left_star id (k == right_id (path_of b.arena id))
-      (λ j. (right_of b.arena j ≡ Some k) × IsMarked b j) (λ j. (right_of b.arena j ≡ Some k) × IsTrue (set.contains (set.insert b.marked id) j))
-      (sides_of_two_later b.lists (left_id (path_of b.arena id)) (right_id (path_of b.arena id)) (λ s. record s { right_star = s.right_star ++ id ∷ [] }) (λ s. record s { left_star = s.left_star ++ id ∷ [] }) (λ s. s.left_star) id k (λ s. refl) (λ s. refl))
-      (was.extensions.left_star k) (star_with (λ p. p.right) (right_id (path_of b.arena id)) (right_is b id was edge) k) q;
+        grown (sides_at b.lists k).left_star (sides_at (starred b.lists id (left_id (path_of b.arena id)) (right_id (path_of b.arena id))) k).left_star id (k == right_id (path_of b.arena id))
+        (λ j. (right_of b.arena j ≡ Some k) × IsMarked b j) (λ j. (right_of b.arena j ≡ Some k) × IsTrue (set.contains (set.insert b.marked id) j))
+        (sides_of_two_later b.lists (left_id (path_of b.arena id)) (right_id (path_of b.arena id)) (λ s. record s { right_star = s.right_star ++ id ∷ [] }) (λ s. record s { left_star = s.left_star ++ id ∷ [] }) (λ s. s.left_star) id k (λ s. refl) (λ s. refl))
+        (was.extensions.left_star k) (star_with (λ p. p.right) (right_id (path_of b.arena id)) (right_is b id was edge) k) q;
     right_star = λ k q.
-      grown (sides_at b.lists k).right_star (sides_at (starred b.lists id (left_id (path_of b.arena id)) (right_id (path_of b.arena id))) k).right_star id (k == left_id (path_of b.arena id))
-      (λ j. (left_of b.arena j ≡ Some k) × IsMarked b j) (λ j. (left_of b.arena j ≡ Some k) × IsTrue (set.contains (set.insert b.marked id) j))
-      (sides_of_two b.lists (left_id (path_of b.arena id)) (right_id (path_of b.arena id)) (λ s. record s { right_star = s.right_star ++ id ∷ [] }) (λ s. record s { left_star = s.left_star ++ id ∷ [] }) (λ s. s.right_star) id k (λ s. refl) (λ s. refl))
-      (was.extensions.right_star k) (star_with (λ p. p.left) (left_id (path_of b.arena id)) (left_is b id was edge) k) q;
+        grown (sides_at b.lists k).right_star (sides_at (starred b.lists id (left_id (path_of b.arena id)) (right_id (path_of b.arena id))) k).right_star id (k == left_id (path_of b.arena id))
+        (λ j. (left_of b.arena j ≡ Some k) × IsMarked b j) (λ j. (left_of b.arena j ≡ Some k) × IsTrue (set.contains (set.insert b.marked id) j))
+        (sides_of_two b.lists (left_id (path_of b.arena id)) (right_id (path_of b.arena id)) (λ s. record s { right_star = s.right_star ++ id ∷ [] }) (λ s. record s { left_star = s.left_star ++ id ∷ [] }) (λ s. s.right_star) id k (λ s. refl) (λ s. refl))
+        (was.extensions.right_star k) (star_with (λ p. p.left) (left_id (path_of b.arena id)) (left_is b id was edge) k) q;
   }
 
   pub book_promoted : IsBook (with_mark b id)
@@ -126,27 +126,29 @@ module _ (b : Book) (id : ℕ) (was : IsBook b) (edge : HasAnEdge b.arena id) (p
       count_less (IsCounted b false) (IsCounted (with_mark b id) false) n (list_of b.arena id) (id, edge, refl, down)
       (λ q. (
         λ h. (
-          let apart : h.0 ≢ id = λ same. (false≢true (sym h.3 ∙ ap (set.contains (set.insert b.marked id)) same ∙ marked_put b.marked id)) in
-          ((h.0, h.1, h.2, sym (marked_put_other b.marked id h.0 apart) ∙ h.3), λ same. apart (same_id h.0 h.1 (h.2 ∙ same)))
-        ),
+            let apart : h.0 ≢ id = λ same. (false≢true (sym h.3 ∙ ap (set.contains (set.insert b.marked id)) same ∙ marked_put b.marked id)) in
+            ((h.0, h.1, h.2, sym (marked_put_other b.marked id h.0 apart) ∙ h.3), λ same. apart (same_id h.0 h.1 (h.2 ∙ same)))
+            ),
         λ h. (
-          let apart : h.0.0 ≢ id = λ same. h.1 (sym h.0.2 ∙ ap (list_of b.arena) same) in
-          (h.0.0, h.0.1, h.0.2, marked_put_other b.marked id h.0.0 apart ∙ h.0.3)
-        ),
+            let apart : h.0.0 ≢ id = λ same. h.1 (sym h.0.2 ∙ ap (list_of b.arena) same) in
+            (h.0.0, h.0.1, h.0.2, marked_put_other b.marked id h.0.0 apart ∙ h.0.3)
+            ),
       )) c
 
   pub stored_promoted : (held : Heaps) (historical waiting : ℕ) → IsStored b held historical waiting → (1 ≤ waiting) × IsStored (with_mark b id) held (historical + 1) (waiting - 1)
   stored_promoted held historical waiting stored =
       let less = pending_promoted waiting stored.pending_count in
       let some : 1 ≤ waiting = less.0 in
-      let most : historical + waiting ≤ 2 ^ 48 = stored.most in
-      (some, record {
-        book = book_promoted;
-        heaps = stored.heaps;
-        historical_count = historical_promoted historical stored.historical_count;
-        pending_count = less.1;
-        most = omega arith;
-      })
+      let most : historical + waiting ≤ 2 ^ 48 = stored.most in (
+        some,
+        record {
+          book = book_promoted;
+          heaps = stored.heaps;
+          historical_count = historical_promoted historical stored.historical_count;
+          pending_count = less.1;
+          most = omega arith;
+        },
+      )
 
 -- the book with a mark set and the starred lists longer
 pub is_promoted : (b : Book) (marks : List Bool) (id key l r : ℕ) (lists : Known) → marked_in marks ≡ b.marked → key ≡ id → key < length marks → left_of b.arena id ≡ Some l → right_of b.arena id ≡ Some r → lists ≡ starred b.lists id l r → ◌≡◌ {A = Book} (record { arena = b.arena; marked = marked_in (slice_set marks key true); lists = lists }) (with_mark b id)

@@ -46,10 +46,10 @@ module _ (b : Book) (was : IsBook b) where
   kept_counted p = (
     λ h. elim h [ inl c ↦ there true c | inr c ↦ there false c ],
     λ h. (
-      let k = (kept_live b p).0 h.0 in
-      let edge : HasAnEdge b.arena k.0 = edge_of_long b.arena k.0 was.arena k.1 (subst (λ q. 1 < length q) (sym k.2) h.1) in
-      by_mark k.0 edge k.2 (set.contains b.marked k.0) refl
-    ),
+        let k = (kept_live b p).0 h.0 in
+        let edge : HasAnEdge b.arena k.0 = edge_of_long b.arena k.0 was.arena k.1 (subst (λ q. 1 < length q) (sym k.2) h.1) in
+        by_mark k.0 edge k.2 (set.contains b.marked k.0) refl
+        ),
   )
     where
       there : (o : Bool) → IsCounted b o p → IsKeptIn (kept_paths b) p × IsWithEdge p
@@ -88,10 +88,10 @@ last_of_one v x y p e f l =
 
 pub least_kept : (b : Book) (held : Heaps) (historical pending x y : ℕ) → IsStored b held historical pending → x ≢ y → (o : Option ℕ) → IfSome o (IsLeastHeld held x y) → IsNone o ↔ (held_at held x y ≡ []) → MatchOption o (KeepsNone b x y) (IsLeastKept b x y)
 least_kept b held historical pending x y stored apart None least none = λ q live ends. (
-  let c : Contains (held_at held x y) q = held_of q live ends in
-  let empty : held_at held x y ≡ [] = none.0 refl in
-  in_nil q (subst (λ xs. Contains xs q) empty c)
-)
+    let c : Contains (held_at held x y) q = held_of q live ends in
+    let empty : held_at held x y ≡ [] = none.0 refl in
+    in_nil q (subst (λ xs. Contains xs q) empty c)
+    )
   where
     held_of : (q : ℕ) → IsLive b.arena q → HasEnds b.arena q x y → Contains (held_at held x y) q
     held_of q live ends = elim (single_or_edge b.arena q stored.book.arena live) [
@@ -131,13 +131,13 @@ least_single b was x l =
       live = live;
       ends = (ap (λ p. first p.list) there, ap (λ p. last p.list) there);
       least = λ q live_q ends below. (
-        let p = live_path b.arena q live_q in
-        let list : list_of b.arena q ≡ p.0.list = ap (λ r. r.list) (path_of_at b.arena q p.0 p.1) in
-        let simple : IsSimple (list_of b.arena q) = subst IsSimple (sym list) (was.arena.paths q p.0 p.1).simple in
-        let one : list_of b.arena q ≡ x ∷ [] = simple_turn x (list_of b.arena q) simple ends.0 ends.1 in
-        let same : q ≡ vertex_of b.arena x = was.once q (vertex_of b.arena x) live_q live (one ∙ sym (ap (λ r. r.list) there)) in
-        not_below_itself b.arena (vertex_of b.arena x) (subst (λ j. id_cmp b.arena j (vertex_of b.arena x) ≡ Less) same below)
-      );
+          let p = live_path b.arena q live_q in
+          let list : list_of b.arena q ≡ p.0.list = ap (λ r. r.list) (path_of_at b.arena q p.0 p.1) in
+          let simple : IsSimple (list_of b.arena q) = subst IsSimple (sym list) (was.arena.paths q p.0 p.1).simple in
+          let one : list_of b.arena q ≡ x ∷ [] = simple_turn x (list_of b.arena q) simple ends.0 ends.1 in
+          let same : q ≡ vertex_of b.arena x = was.once q (vertex_of b.arena x) live_q live (one ∙ sym (ap (λ r. r.list) there)) in
+          not_below_itself b.arena (vertex_of b.arena x) (subst (λ j. id_cmp b.arena j (vertex_of b.arena x) ≡ Less) same below)
+          );
     }
 
 -- a path that is not historical has an edge

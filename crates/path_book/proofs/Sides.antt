@@ -50,8 +50,7 @@ module _ (part : Path → Option ℕ) (lacks : part no_path ≡ None) where
       by_case : (q ≡ id) ⊎ (q ≢ id) → (part (path_of (with_path a id p) q) ≡ Some k) ↔ ((part (path_of a q) ≡ Some k) ⊎ (IsTrue (k == key) × (q ≡ id)))
       by_case (inl same) =
           let now : path_of (with_path a id p) q ≡ p = ap (λ o. unwrap_or o no_path) (ap (path_at (with_path a id p)) same ∙ get_put a.paths id p) in
-          let was : part (path_of a q) ≡ None = ap (λ o. part (unwrap_or o no_path)) (ap (path_at a) same ∙ fresh) ∙ lacks in
-          (
+          let was : part (path_of a q) ≡ None = ap (λ o. part (unwrap_or o no_path)) (ap (path_at a) same ∙ fresh) ∙ lacks in (
             λ h. inr (eq-eqb k key (let two : Some k ≡ Some key = sym h ∙ ap part now ∙ is in cc), same),
             λ h. elim h [
               | inl before ↦ absurd (let two : None ≡ Some k = sym was ∙ before in cc)
@@ -59,8 +58,7 @@ module _ (part : Path → Option ℕ) (lacks : part no_path ≡ None) where
             ],
           )
       by_case (inr apart) =
-          let kept : path_of (with_path a id p) q ≡ path_of a q = ap (λ o. unwrap_or o no_path) (get_put_other a.paths id p q apart) in
-          (
+          let kept : path_of (with_path a id p) q ≡ path_of a q = ap (λ o. unwrap_or o no_path) (get_put_other a.paths id p q apart) in (
             λ h. inl (sym (ap part kept) ∙ h),
             λ h. elim h [ inl before ↦ ap part kept ∙ before | inr now_is ↦ absurd (apart now_is.1) ],
           )

@@ -17,7 +17,7 @@ pub loop-v-preserved : goal.loop-v-preserved
 loop-v-preserved c =
     let items = take (length c.args.list.now - 1) (drop 1 c.args.list.now) in
     let longer = extended (view_of c.self.inside) c.self.invariant.book c.loop-v.id (get_or items c.loop-v.v-index 0) c.in_ok-id.id c.loop-v.invariant.live
-      (subst (λ (b : Book). IsExtensionTo b.arena c.loop-v.id (get_or items c.loop-v.v-index 0) c.in_ok-id.id) (sym c.self.view_is) c.in_ok-id.ensures.found) in
+    (subst (λ (b : Book). IsExtensionTo b.arena c.loop-v.id (get_or items c.loop-v.v-index 0) c.in_ok-id.id) (sym c.self.view_is) c.in_ok-id.ensures.found) in
     record {
       live = longer.0;
       list = ap (λ p. p ++ drop (c.loop-v.v-index + 1) items) longer.1 ∙ one_further (list_of c.self.inside.arena c.loop-v.id) items c.args.list.now c.loop-v.v-index (get_or items c.loop-v.v-index 0) c.loop-v-test.true refl c.loop-v.invariant.list;
