@@ -21,6 +21,30 @@ fn add(arena: &mut Arena, heaps: &mut Heaps, w: u32) -> Result<(), Memory>
     Ok(())
 }
 
+/// The weight of the least path from 0 to 2, which is taken out.
+fn take_least(arena: &Arena, heaps: &mut Heaps) -> Option<u64>
+    requires fits { Fits heaps.old arena.now }
+    requires three { arena.now.vertices ≡ 3 }
+    ensures { Fits heaps.new arena.now }
+{
+    let id = heaps.least(0, 2)?;
+    heaps.remove(arena, id);
+    Some(arena.weight(id))
+}
+
+/// Whether the least paths have these weights until none is left.
+fn comes_out(arena: &Arena, heaps: &mut Heaps, weights: &[u32]) -> bool
+    requires fits { Fits heaps.old arena.now }
+    requires three { arena.now.vertices ≡ 3 }
+{
+    'emptying: for w in weights {
+        if take_least(arena, heaps) != Some(u64::from(*w)) {
+            return false;
+        }
+    }
+    heaps.least(0, 2).is_none()
+}
+
 #[test]
 fn forty_paths(rt: HostRuntime) -> Result<(), Fail> {
     let mut arena = Arena::new(rt.alloc(), 3)?;
@@ -34,15 +58,7 @@ fn forty_paths(rt: HostRuntime) -> Result<(), Fail> {
         weights.push(w)?;
     }
     weights.sort()?;
-    'emptying: for w in &weights {
-        if let Some(id) = heaps.least(0, 2) {
-            assert_eq!(rt; arena.weight(id), u64::from(*w));
-            heaps.remove(&arena, id);
-        } else {
-            assert!(rt; false, "none is left before {w}");
-        }
-    }
-    assert!(rt; heaps.least(0, 2).is_none());
     assert!(rt; heaps.least(2, 0).is_none());
+    assert!(rt; comes_out(&arena, &mut heaps, &weights));
     Ok(())
 }

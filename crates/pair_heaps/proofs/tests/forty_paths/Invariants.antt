@@ -3,7 +3,4 @@ use Rattle.pair_heaps.specs.Heaps.{Fits}
 use Rattle.pair_heaps.proofs.tests.forty_paths.Given as goal
 
 abbrev pub invariant-filling : goal.invariant-filling
-invariant-filling l = Fits l.heaps l.arena × (l.arena.vertices ≡ 3)
-
-abbrev pub invariant-emptying : goal.invariant-emptying
-invariant-emptying l = Fits l.heaps l.arena × (l.arena.vertices ≡ 3)
+invariant-filling g l = Fits l.heaps l.arena × (l.arena.vertices ≡ 3)
