@@ -1,0 +1,11 @@
+pub mod Views
+pub mod Growth
+pub mod Held
+pub mod Promoting
+pub mod Partnering
+pub mod Starting
+pub mod Heads
+pub mod Classing
+pub mod Ending
+pub mod Lightest
+pub mod Joined

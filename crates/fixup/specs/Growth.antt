@@ -1,0 +1,118 @@
+-- What a settling has done to a book by now.
+use Rattle.std.specs.Prelude.{◌≡◌, ◌≢◌, ℕ, ◌<◌, ◌⊎◌, ◌↔◌, List, [], ◌∷◌, ◌++◌, length, Some, None, option_to_list, Contains}
+use Rattle.apsp_model.specs.Graph.{Graph, IsGraph, HasEdge}
+use Rattle.apsp_model.specs.Walk.{weight_of, first, last}
+use Rattle.path_arena.specs.Arena.{Path, path_at, list_of, left_of, right_of, IsLive, HasAnEdge}
+use Rattle.path_book.specs.Book.{Book, IsMarked, IsBook, with_mark, IsLeastKept, KeepsNone}
+use Rattle.weight_classes.specs.Classes.{Classes, Fits}
+use Rattle.fixup_math.proofs.Forming.{IsForming}
+use Rattle.fixup_math.proofs.Promotions.{IsJoin}
+use Rattle.fixup_math.proofs.Ranks.{ByWeight}
+use Rattle.fixup_math.proofs.Settling.{IsSettling}
+use Rattle.fixup_math.proofs.Winners.{IsInClass}
+use Rattle.fixup.specs.Views.{Kept, Marked, HeldIn, WonIn}
+
+-- b has what the book b0 had, and else paths of this birth; the weights are those of the graph
+pub record IsGrown (g : Graph) (birth : ℕ) (b0 b : Book) : Type 0 where
+  pub lawful : IsBook b
+  pub vertices : b.arena.vertices ≡ g.vertices
+  pub weights : (id : ℕ) (p : Path) → path_at b.arena id ≡ Some p → p.weight ≡ weight_of g p.list
+  pub old : (id : ℕ) (p : Path) → path_at b0.arena id ≡ Some p → path_at b.arena id ≡ Some p
+  pub new : (id : ℕ) (p : Path) → path_at b.arena id ≡ Some p → (path_at b0.arena id ≡ Some p) ⊎ ((path_at b0.arena id ≡ None) × (p.birth ≡ birth))
+
+-- ---- before the first class
+
+-- the edges from v to the vertices below i, and to v from those below j
+abbrev pub EdgesBy : Graph → ℕ → ℕ → ℕ → List ℕ → Type 0
+EdgesBy g v i j p = ((u : ℕ) × (u < i) × HasEdge g v u × (p ≡ v ∷ u ∷ [])) ⊎ ((u : ℕ) × (u < j) × HasEdge g u v × (p ≡ u ∷ v ∷ []))
+
+-- these edges are formed by now
+pub record IsEdging (g : Graph) (v birth : ℕ) (b0 : Book) (i j : ℕ) (b : Book) : Type 0 where
+  pub grown : IsGrown g birth b0 b
+  pub marks : b.marked ≡ b0.marked
+  pub kept : (p : List ℕ) → Kept b p ↔ (Kept b0 p ⊎ EdgesBy g v i j p)
+
+-- the pair of u and v stands before that of x and y, row by row
+abbrev pub StandsBefore : ℕ → ℕ → ℕ → ℕ → Type 0
+StandsBefore x y u v = (u < x) ⊎ ((u ≡ x) × (v < y))
+
+-- the least kept path of a pair before that of x and y, where it is not historical
+pub record IsHead (b : Book) (x y : ℕ) (p : List ℕ) : Type 0 where
+  pub from : ℕ
+  pub to : ℕ
+  pub id : ℕ
+  pub earlier : StandsBefore x y from to
+  pub inside : to < b.arena.vertices
+  pub least : IsLeastKept b from to id
+  pub pending : IsMarked b id → ⊥
+  pub list : list_of b.arena id ≡ p
+
+-- the heads of the pairs before that of x and y are held
+pub record IsQueueing (b : Book) (x y : ℕ) (c : Classes) : Type 0 where
+  pub fits : Fits c b.arena
+  pub none_won : (u v : ℕ) → WonIn c u v → ⊥
+  pub heads : (u v : ℕ) → StandsBefore x y u v → v < b.arena.vertices → KeepsNone b u v ⊎ ((id : ℕ) × IsLeastKept b u v id × (IsMarked b id ⊎ HeldIn b c (list_of b.arena id)))
+  pub held : (p : List ℕ) → HeldIn b c p → IsHead b x y p
+
+-- ---- the classes
+
+-- what holds of a settling before each class, where the book was b0 at its start
+pub record IsAt (g : Graph) (birth : ℕ) (b0 b : Book) (c : Classes) : Type 0 where
+  pub graph : IsGraph g
+  pub grown : IsGrown g birth b0 b
+  pub fits : Fits c b.arena
+  pub held_long : (p : List ℕ) → HeldIn b c p → 1 < length p
+  pub settling : IsSettling g (Marked b0) (Marked b) (Kept b) (HeldIn b c) (WonIn c)
+
+-- the lists of these ids
+abbrev pub ListedIn : Book → List ℕ → List ℕ → Type 0
+ListedIn b ids p = (w : ℕ) × Contains ids w × (list_of b.arena w ≡ p)
+
+-- between two winners of the class of cl: these ids are still to be promoted
+pub record IsBetween (g : Graph) (birth : ℕ) (b0 : Book) (cl : List ℕ) (todo : List ℕ) (b : Book) (c : Classes) : Type 0 where
+  pub graph : IsGraph g
+  pub grown : IsGrown g birth b0 b
+  pub fits : Fits c b.arena
+  pub todo_live : (w : ℕ) → Contains todo w → IsLive b.arena w
+  pub held_long : (p : List ℕ) → HeldIn b c p → 1 < length p
+  pub above : (p : List ℕ) → HeldIn b c p → weight_of g cl < weight_of g p
+  pub inside : IsInClass g (ByWeight g) (Marked b0) (Marked b) (Kept b) (HeldIn b c) (ListedIn b todo) (WonIn c) cl
+
+-- the winner w is promoted where the book was `before` and the classes held `held`; these joins of it are formed by now
+pub record IsPromoting (g : Graph) (birth : ℕ) (b0 : Book) (cl : List ℕ) (w : ℕ) (rest : List ℕ) (before : Book) (held : Classes) (done : List (List ℕ)) (b : Book) (c : Classes) : Type 0 where
+  pub start : IsBetween g birth b0 cl (w ∷ rest) before held
+  pub grown : IsGrown g birth b0 b
+  pub fits : Fits c b.arena
+  pub marks : b.marked ≡ (with_mark before w).marked
+  pub still : (id : ℕ) → IsLive before.arena id → path_at b.arena id ≡ path_at before.arena id
+  pub won : c.won ≡ held.won
+  pub vertices : c.vertices ≡ held.vertices
+  pub joins : (p : List ℕ) → Contains done p → IsJoin g (Marked before) (λ q. q ≡ list_of before.arena w) p
+  pub forming : IsForming g (λ p. Marked before p ⊎ (p ≡ list_of before.arena w)) (Kept before) (HeldIn before held) (WonIn held) done (Kept b) (HeldIn b c)
+
+-- by the partners in front of the winner
+abbrev pub FrontJoin : Book → ℕ → List ℕ → List ℕ → Type 0
+FrontJoin before w fs p = (q : ℕ) × Contains fs q × (first (list_of before.arena q) ≢ last (list_of before.arena w)) × (p ≡ list_of before.arena q ++ option_to_list (last (list_of before.arena w)))
+
+-- and by those behind it
+abbrev pub BehindJoin : Book → ℕ → List ℕ → List ℕ → Type 0
+BehindJoin before w rs p = (q : ℕ) × Contains rs q × (first (list_of before.arena w) ≢ last (list_of before.arena q)) × (p ≡ list_of before.arena w ++ option_to_list (last (list_of before.arena q)))
+
+-- a historical path in front of the winner
+pub record IsInFront (before : Book) (w q : ℕ) : Type 0 where
+  pub marked : IsMarked before q
+  pub meets : right_of before.arena q ≡ left_of before.arena w
+
+-- .. or behind it
+pub record IsBehind (before : Book) (w q : ℕ) : Type 0 where
+  pub marked : IsMarked before q
+  pub meets : right_of before.arena w ≡ left_of before.arena q
+
+-- the joins with these partners are formed by now
+pub record IsJoining (g : Graph) (birth : ℕ) (b0 : Book) (cl : List ℕ) (w : ℕ) (rest : List ℕ) (before : Book) (held : Classes) (fs rs : List ℕ) (b : Book) (c : Classes) : Type 0 where
+  pub done : List (List ℕ)
+  pub promoting : IsPromoting g birth b0 cl w rest before held done b c
+  pub edge : HasAnEdge before.arena w
+  pub fronts : (q : ℕ) → Contains fs q → IsInFront before w q
+  pub behinds : (q : ℕ) → Contains rs q → IsBehind before w q
+  pub are : (p : List ℕ) → Contains done p ↔ (FrontJoin before w fs p ⊎ BehindJoin before w rs p)

@@ -1,0 +1,5 @@
+pub mod Joining
+pub mod Starts
+pub mod Views
+pub mod Growth
+pub mod Stages

@@ -1,0 +1,19 @@
+-- What is done before the first class: edges are kept, and the least paths that are not historical are held.
+use Rattle.std.specs.Prelude.{◌≡◌, ◌≢◌, ℕ, ◌⊎◌, Some, None}
+use Rattle.apsp_model.specs.Graph.{Graph, weight_at}
+use Rattle.path_arena.specs.Arena.{path_at, edge_path}
+use Rattle.path_book.specs.Book.{Book, IsMarked, with_kept, IsLeastKept, KeepsNone}
+use Rattle.weight_classes.specs.Classes.{Classes, IsPushed}
+
+-- the edge from u to v is kept where the graph has it
+abbrev pub IsEdgeFormed : Graph → Book → ℕ → ℕ → ℕ → Book → Type 0
+IsEdgeFormed g b u v birth after =
+    ((weight_at g u v ≡ None) × (after ≡ b))
+    ⊎ ((w : ℕ) × (id : ℕ) × (weight_at g u v ≡ Some w) × (path_at b.arena id ≡ None) × (after ≡ with_kept b id (edge_path b.arena u v w birth)))
+
+-- the least kept path of the pair is held where it is not historical
+abbrev pub IsHeadHeld : Book → ℕ → ℕ → Classes → Classes → Type 0
+IsHeadHeld b x y c later =
+    (KeepsNone b x y × (later ≡ c))
+    ⊎ (((id : ℕ) × IsLeastKept b x y id × IsMarked b id × (later ≡ c))
+    ⊎ ((id : ℕ) × IsLeastKept b x y id × (IsMarked b id → ⊥) × IsPushed c later b.arena id))
