@@ -9,3 +9,4 @@ pub mod Classing
 pub mod Ending
 pub mod Lightest
 pub mod Joined
+pub mod Wholes

@@ -6,8 +6,15 @@ use Rattle.path_arena.specs.Arena.{Arena}
 use Rattle.weight_classes.specs.Classes.{HoldsAt, AreBuckets}
 
 -- more than any path weighs
-abbrev pub above_all : ℕ
+pub above_all : ℕ
 above_all = MOST_VERTICES * MOST_WEIGHT + 1
+
+within : (most w v : ℕ) → v ≤ most → v ≡ w → w + 1 ≤ most + 1
+within most w v l e = omega (arith, l, e)
+
+pub above_most : (w v : ℕ) → v ≤ MOST_VERTICES * MOST_WEIGHT → v ≡ w → w + 1 ≤ above_all
+unfolding above_all
+above_most w v l e = within (MOST_VERTICES * MOST_WEIGHT) w v l e
 
 abbrev pub lightest : List (ℕ × List ℕ) → ℕ
 lightest [] = above_all
@@ -20,9 +27,21 @@ lightest_upto (b ∷ bs) w id h = elim h [
   | inr more ↦ omega (arith, lightest_upto bs w id more)
 ]
 
+head_there : (ids : List ℕ) → 0 < length ids → Contains ids (get_or ids 0 0)
+head_there [] h = let k : ⊥ = omega (arith, h) in absurd k
+head_there (x ∷ xs) h = (0, h, refl)
+
 pub lightest_from : (a : Arena) (bs : List (ℕ × List ℕ)) (k : ℕ) → AreBuckets a bs → k ≤ above_all → ((w id : ℕ) → HoldsAt bs w id → k ≤ w) → k ≤ lightest bs
 lightest_from a [] k all most least = most
 lightest_from a (b ∷ bs) k all most least =
-    let here : k ≤ b.0 = least b.0 (get_or b.1 0 0) (inl (refl, (0, all.0.some, refl))) in
+    let here : k ≤ b.0 = least b.0 (get_or b.1 0 0) (inl (refl, head_there b.1 all.0.some)) in
     let rest : k ≤ lightest bs = lightest_from a bs k all.1 most (λ w id h. least w id (inr h)) in
     omega (arith, here, rest)
+
+-- falls from class to class
+pub left_over : List (ℕ × List ℕ) → ℕ
+left_over bs = above_all - lightest bs
+
+pub left_over_is : (bs : List (ℕ × List ℕ)) → left_over bs ≡ above_all - lightest bs
+unfolding left_over
+left_over_is bs = refl

@@ -4,7 +4,7 @@ use Rattle.apsp_model.specs.Graph.{Graph, IsGraph, HasEdge}
 use Rattle.apsp_model.specs.Walk.{weight_of, first, last}
 use Rattle.path_arena.specs.Arena.{Path, path_at, list_of, left_of, right_of, IsLive, HasAnEdge}
 use Rattle.path_book.specs.Book.{Book, IsMarked, IsBook, with_mark, IsLeastKept, KeepsNone}
-use Rattle.weight_classes.specs.Classes.{Classes, Fits}
+use Rattle.weight_classes.specs.Classes.{Classes, Fits, IsHeld}
 use Rattle.fixup_math.proofs.Forming.{IsForming}
 use Rattle.fixup_math.proofs.Promotions.{IsJoin}
 use Rattle.fixup_math.proofs.Ranks.{ByWeight}
@@ -63,6 +63,12 @@ pub record IsAt (g : Graph) (birth : ℕ) (b0 b : Book) (c : Classes) : Type 0 w
   pub fits : Fits c b.arena
   pub held_long : (p : List ℕ) → HeldIn b c p → 1 < length p
   pub settling : IsSettling g (Marked b0) (Marked b) (Kept b) (HeldIn b c) (WonIn c)
+
+-- .. and where nothing is held any more
+pub record IsOver (g : Graph) (birth : ℕ) (b0 b : Book) : Type 0 where
+  pub classes : Classes
+  pub at : IsAt g birth b0 b classes
+  pub empty : (w id : ℕ) → IsHeld classes w id → ⊥
 
 -- the lists of these ids
 abbrev pub ListedIn : Book → List ℕ → List ℕ → Type 0

@@ -1,6 +1,6 @@
 //! One winner is promoted, with its joins.
 
-ghost use Rattle.std.specs.Prelude.{◌≡◌, ℕ, ◌<◌, OnOk, Contains, [], ◌∷◌};
+ghost use Rattle.std.specs.Prelude.{◌≡◌, ℕ, ◌<◌, OnOk, OnErr, Contains, [], ◌∷◌};
 ghost use Rattle.apsp_model.specs.Walk.{IsOnceEach, first, last};
 ghost use Rattle.path_arena.specs.Arena.{list_of, IsLive, CanJoin, joined_path};
 ghost use Rattle.path_book.specs.Book.{IsBook, IsMarked, IsNewList};
@@ -13,26 +13,8 @@ use path_arena::PathId;
 use path_book::Book;
 use weight_classes::Classes;
 
-/// Promotes the winners of a class one behind another, each with its joins at once.
-pub(crate) fn promote_all(
-    book: &mut Book,
-    classes: &mut Classes,
-    partners: &mut Vec<PathId>,
-    winners: &[PathId],
-    birth: u64,
-) -> Result<(), Memory>
-    requires ready { AreWinnersReady birth winners.now book.old classes.old }
-    requires once { IsOnceEach winners.now }
-    ensures done { OnOk result ((s : Stage) → IsBetweenAt s birth winners.now book.old classes.old → IsBetweenAt s birth [] book.new classes.new) }
-{
-    'winners: for &winner in winners {
-        promote(book, classes, partners, winner, birth)?;
-    }
-    Ok(())
-}
-
 /// Promotes a winner, and keeps its joins with the partners that are historical by then.
-fn promote(
+pub(crate) fn promote(
     book: &mut Book,
     classes: &mut Classes,
     partners: &mut Vec<PathId>,
@@ -41,6 +23,7 @@ fn promote(
 ) -> Result<(), Memory>
     requires ready { IsWinnerReady birth winner book.old classes.old }
     ensures done { OnOk result ((s : Stage) → IsBetweenAt s birth (winner ∷ s.rest) book.old classes.old → (Contains s.rest winner → ⊥) → IsBetweenAt s birth s.rest book.new classes.new) }
+    ensures lawful { OnErr result (IsBook book.new) }
 {
     book.promote(winner)?;
     let arena = book.arena();
@@ -62,6 +45,7 @@ fn join_in_front(
     requires ready { IsFrontReady birth winner partners.now book.old classes.old }
     requires once { IsOnceEach partners.now }
     ensures done { OnOk result ((s : Stage) → IsJoiningAt s birth winner [] s.behind book.old classes.old → AreInFront s winner partners.now → IsJoiningAt s birth winner partners.now s.behind book.new classes.new) }
+    ensures lawful { OnErr result (IsBook book.new) }
 {
     'partners: for &partner in partners {
         join(book, classes, partner, winner, birth)?;
@@ -80,6 +64,7 @@ fn join_behind(
     requires ready { IsBehindReady birth winner partners.now book.old classes.old }
     requires once { IsOnceEach partners.now }
     ensures done { OnOk result ((s : Stage) → IsJoiningAt s birth winner s.front [] book.old classes.old → AreBehind s winner partners.now → IsJoiningAt s birth winner s.front partners.now book.new classes.new) }
+    ensures lawful { OnErr result (IsBook book.new) }
 {
     'partners: for &partner in partners {
         join(book, classes, winner, partner, birth)?;

@@ -1,17 +1,19 @@
 //! A settling, class by class.
 
-ghost use Rattle.std.specs.Prelude.{◌≡◌, ℕ, ◌<◌, ◌≤◌, IfOk, OnOk};
+ghost use Rattle.std.specs.Prelude.{◌≡◌, ℕ, ◌<◌, ◌≤◌, [], IfOk, OnOk, OnErr};
+ghost use Rattle.apsp_model.specs.Walk.{IsOnceEach};
 ghost use Rattle.apsp_model.specs.Settled.{IsReady, IsSettled};
 ghost use Rattle.path_book.specs.Book.{IsBook, kept_paths};
 ghost use Rattle.weight_classes.specs.Classes.{IsHeld};
-ghost use Rattle.fixup.specs.Growth.{IsAt};
-ghost use Rattle.fixup.specs.Stages.{Start, IsStarted};
+ghost use Rattle.fixup.specs.Growth.{IsAt, IsOver};
+ghost use Rattle.fixup.specs.Stages.{Start, Stage, IsStarted, IsBetweenAt, AreWinnersReady};
 
-use crate::joins::promote_all;
+use crate::joins::promote;
 use crate::starts::{form_edges, queue_heads};
 use apsp_io::Gate;
 use apsp_model::Memory;
 use graph_store::Graph;
+use path_arena::PathId;
 use path_book::Book;
 use std::alloc::Global;
 use std::marker::Sync;
@@ -57,14 +59,34 @@ pub fn settle<R: Threads + Sync, G: Gate>(
     ensures lawful { IsBook book.new }
 {
     let (paths, historical) = (book.count_paths(), book.count_historical());
-    form_edges(book, graph, v, birth)?;
-    let mut classes = Classes::new(alloc, graph.vertices())?;
-    queue_heads(book, &mut classes, graph.vertices())?;
-    take_classes(alloc, book, &mut classes, birth)?;
+    settle_paths(alloc, book, graph, v, birth)?;
     Ok(Settled {
         formed: book.count_paths() - paths,
         promoted: book.count_historical() - historical,
     })
+}
+
+/// Keeps the edges at v, holds the heads of the pairs, and takes class by class.
+fn settle_paths(
+    alloc: Global,
+    book: &mut Book,
+    graph: &Graph,
+    v: u32,
+    birth: u64,
+) -> Result<(), Memory>
+    requires lawful { IsBook book.old }
+    requires same { book.old.arena.vertices ≡ graph.now.vertices }
+    requires inside { v < graph.now.vertices }
+    requires ready { IsReady graph.now v (kept_paths book.old) }
+    ensures over { OnOk result (IsOver graph.now birth book.old book.new) }
+    ensures lawful { OnErr result (IsBook book.new) }
+{
+    form_edges(book, graph, v, birth)?;
+    let n = graph.vertices();
+    let _ = book.count_paths();
+    let mut classes = Classes::new(alloc, n)?;
+    queue_heads(book, &mut classes, n)?;
+    take_classes(alloc, book, &mut classes, birth)
 }
 
 /// Takes class by class until nothing is held.
@@ -76,6 +98,7 @@ fn take_classes(
 ) -> Result<(), Memory>
     requires started { IsStarted birth book.old classes.old }
     ensures done { OnOk result ((s : Start) → IsAt s.graph birth s.opening book.old classes.old → IsAt s.graph birth s.opening book.new classes.new) }
+    ensures lawful { OnErr result (IsBook book.new) }
     ensures empty { OnOk result ((w id : ℕ) → IsHeld classes.new w id → ⊥) }
 {
     let mut partners = Vec::new(alloc);
@@ -84,3 +107,23 @@ fn take_classes(
     }
     Ok(())
 }
+
+/// Promotes the winners of a class one behind another, each with its joins at once.
+fn promote_all(
+    book: &mut Book,
+    classes: &mut Classes,
+    partners: &mut Vec<PathId>,
+    winners: &[PathId],
+    birth: u64,
+) -> Result<(), Memory>
+    requires ready { AreWinnersReady birth winners.now book.old classes.old }
+    requires once { IsOnceEach winners.now }
+    ensures done { OnOk result ((s : Stage) → IsBetweenAt s birth winners.now book.old classes.old → IsBetweenAt s birth [] book.new classes.new) }
+    ensures lawful { OnErr result (IsBook book.new) }
+{
+    'winners: for &winner in winners {
+        promote(book, classes, partners, winner, birth)?;
+    }
+    Ok(())
+}
+

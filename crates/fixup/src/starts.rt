@@ -1,6 +1,6 @@
 //! What is done before the first class.
 
-ghost use Rattle.std.specs.Prelude.{◌≡◌, ℕ, ◌<◌, ◌∷◌, [], Some, OnOk};
+ghost use Rattle.std.specs.Prelude.{◌≡◌, ℕ, ◌<◌, ◌∷◌, [], Some, OnOk, OnErr};
 ghost use Rattle.apsp_model.specs.Graph.{weight_at};
 ghost use Rattle.apsp_model.specs.Settled.{IsReady};
 ghost use Rattle.pair_heaps.specs.Heaps.{HasEnds};
@@ -20,6 +20,7 @@ pub(crate) fn form_edges(book: &mut Book, graph: &Graph, v: u32, birth: u64) -> 
     requires inside { v < graph.now.vertices }
     requires ready { IsReady graph.now v (kept_paths book.old) }
     ensures formed { OnOk result (IsEdging graph.now v birth book.old graph.now.vertices graph.now.vertices book.new) }
+    ensures lawful { OnErr result (IsBook book.new) }
 {
     let n = graph.vertices();
     let _ = book.count_paths();

@@ -1,11 +1,10 @@
-use Rattle.std.proofs.Common.{◌-◌}
 use Rattle.fixup.specs.Growth.{IsAt}
 use Rattle.fixup.specs.Stages.{Start}
-use Rattle.fixup.proofs.Lightest.{above_all, lightest}
+use Rattle.fixup.proofs.Lightest.{left_over}
 use Rattle.fixup.proofs.settling.take_classes.Given as goal
 
 abbrev pub invariant-classes : goal.invariant-classes
 invariant-classes l = (s : Start) → IsAt s.graph l.birth s.opening l.initial.book l.initial.classes → IsAt s.graph l.birth s.opening l.book l.classes
 
 abbrev pub decreases-classes : goal.decreases-classes
-decreases-classes l = above_all - lightest l.classes.held
+decreases-classes l = left_over l.classes.held
