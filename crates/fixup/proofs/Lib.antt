@@ -10,3 +10,5 @@ pub mod Ending
 pub mod Lightest
 pub mod Joined
 pub mod Wholes
+pub mod Taking
+pub mod Winner
