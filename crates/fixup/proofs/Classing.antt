@@ -1,26 +1,26 @@
 -- A class is taken, and once its winners are done the next one can be.
-use Rattle.std.specs.Prelude.{◌≡◌, ◌≢◌, ℕ, ◌+◌, ◌*◌, ◌<◌, ◌≤◌, ◌⊎◌, ◌↔◌, false, List, [], ◌∷◌, length, Option, Some, unwrap_or, slice_index_or, refl, Contains}
+use Rattle.std.specs.Prelude.{◌≡◌, ℕ, ◌+◌, ◌*◌, ◌<◌, ◌≤◌, ◌⊎◌, ◌↔◌, false, List, [], ◌∷◌, length, Some, unwrap_or, slice_index_or, refl}
 use Rattle.std.specs.declared.cmp.Ordering.TheVariants.{Less}
 use Rattle.std.proofs.Common.{sym, ◌∙◌, ap, subst, arith, inl, inr}
 use Rattle.std.proofs.lemmas.Bool.{cases_lt}
-use Rattle.apsp_model.specs.Graph.{Graph, IsGraph}
+use Rattle.apsp_model.specs.Graph.{Graph}
 use Rattle.apsp_model.specs.Walk.{IsWalk, IsWalkFrom, weight_of, first, last}
 use Rattle.apsp_model.specs.Order.{path_cmp, IsBelow}
 use Rattle.apsp_model.proofs.Walks.{first_is, last_is}
-use Rattle.path_arena.specs.Arena.{Arena, Path, path_at, path_of, list_of, IsLive, id_cmp}
+use Rattle.path_arena.specs.Arena.{path_of, list_of, IsLive, id_cmp}
 use Rattle.path_book.specs.Book.{Book}
-use Rattle.weight_classes.specs.Classes.{Classes, Fits, IsHeld, IsWon, IsPopped, first_of, last_of, SamePair}
+use Rattle.weight_classes.specs.Classes.{Classes, Fits, IsHeld, IsPopped, first_of, last_of}
 use Rattle.fixup_math.proofs.Counting.{in_nil}
 use Rattle.fixup_math.proofs.Ranks.{ByWeight}
-use Rattle.fixup_math.proofs.Settling.{IsSettling, IsClass}
+use Rattle.fixup_math.proofs.Settling.{IsClass}
 use Rattle.fixup_math.proofs.Classes.{IsPoppedByWeight, IsWinners as IsWinnersOf, class_by_weight}
-use Rattle.fixup_math.proofs.Winners.{IsInClass, class_starts, class_ends}
+use Rattle.fixup_math.proofs.Winners.{class_starts, class_ends}
 use Rattle.fixup.proofs.Growth.{id_weight}
 use Rattle.fixup.proofs.Held.{held_at}
 use Rattle.fixup.proofs.Promoting.{rank_of, positive_of}
 use Rattle.fixup.proofs.Heads.{ends_inside}
 use Rattle.fixup.specs.Views.{HeldIn, Kept, Marked, WonIn}
-use Rattle.fixup.specs.Growth.{IsAt, IsBetween, IsGrown, ListedIn}
+use Rattle.fixup.specs.Growth.{IsAt, IsBetween, ListedIn}
 
 some_nonempty : (g : Graph) (p : List ℕ) → IsWalk g p → 0 < length p
 some_nonempty g [] h = absurd h

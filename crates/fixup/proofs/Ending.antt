@@ -1,10 +1,8 @@
 -- The end of a settling, and what was formed and promoted as differences of counts.
-use Rattle.std.specs.Prelude.{◌≡◌, ℕ, ◌+◌, ◌-◌, ◌<◌, ◌≤◌, ◌⊎◌, ◌↔◌, List, [], ◌∷◌, length, refl, Contains}
+use Rattle.std.specs.Prelude.{◌≡◌, ℕ, ◌+◌, ◌-◌, ◌<◌, ◌≤◌, ◌⊎◌, List, length}
 use Rattle.std.proofs.Common.{sym, ◌∙◌, ap, subst, arith, inl, inr}
 use Rattle.std.proofs.lemmas.Bool.{cases_lt}
 use Rattle.apsp_model.specs.Graph.{Graph}
-use Rattle.apsp_model.specs.Walk.{IsWalk}
-use Rattle.apsp_model.specs.Least.{IsLeastWalk}
 use Rattle.apsp_model.specs.Local.{IsLocal, IsVertex}
 use Rattle.apsp_model.specs.Kept.{IsWithEdge}
 use Rattle.apsp_model.specs.Counts.{CountIs}
@@ -14,15 +12,15 @@ use Rattle.path_arena.specs.Arena.{IsLive, list_of}
 use Rattle.path_arena.proofs.Paths.{live_path, live_from, path_of_at}
 use Rattle.path_book.specs.Book.{Book, IsBook, kept_paths, PathsCount, HistoricalCount}
 use Rattle.weight_classes.specs.Classes.{Classes, IsHeld}
-use Rattle.fixup_math.proofs.Counting.{count_without, count_unique, count_same, count_either, count_none, count_decides, in_nil}
+use Rattle.fixup_math.proofs.Counting.{count_without, count_unique, count_same, count_either, count_decides}
 use Rattle.fixup_math.proofs.Ranks.{ByWeight}
-use Rattle.fixup_math.proofs.Settling.{IsSettling, settled}
+use Rattle.fixup_math.proofs.Settling.{settled}
 use Rattle.fixup_math.proofs.Start.{vertex_of_one}
 use Rattle.fixup.proofs.Growth.{grown_weights, grown_births}
 use Rattle.fixup.proofs.Promoting.{rank_of}
 use Rattle.fixup.proofs.Starting.{kept_is, historical_is, single_marked}
 use Rattle.fixup.specs.Views.{HeldIn, Kept, Marked, WonIn}
-use Rattle.fixup.specs.Growth.{IsAt, IsGrown}
+use Rattle.fixup.specs.Growth.{IsAt}
 
 -- of a kind that grew, what is new is the difference
 pub count_difference : (P Q : List ℕ → Type 0) (m n : ℕ) → CountIs P m → CountIs Q n → ((p : List ℕ) → P p → Q p) → CountIs (λ p. Q p × (P p → ⊥)) (n - m)

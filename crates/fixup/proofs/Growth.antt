@@ -1,17 +1,16 @@
 -- What a settling only adds to a book: paths with a birth, and marks.
-use Rattle.std.specs.Prelude.{◌≡◌, ◌≢◌, ℕ, ◌⊎◌, ◌↔◌, List, Option, Some, None, is_some, unwrap_or, refl}
-use Rattle.std.proofs.Common.{sym, ◌∙◌, ap, subst, inl, inr}
-use Rattle.std.proofs.lemmas.Bool.{cases_eq, true≢false, false≢true}
+use Rattle.std.specs.Prelude.{◌≡◌, ℕ, ◌⊎◌, ◌↔◌, List, Option, Some, None, refl}
+use Rattle.std.proofs.Common.{sym, ◌∙◌, ap, inl, inr}
+use Rattle.std.proofs.lemmas.Bool.{cases_eq}
 use Rattle.apsp_model.specs.Graph.{Graph}
 use Rattle.apsp_model.specs.Walk.{weight_of}
-use Rattle.apsp_model.specs.Paths.{KeptPath, IsKeptIn, HasBirthIn}
+use Rattle.apsp_model.specs.Paths.{IsKeptIn, HasBirthIn}
 use Rattle.apsp_model.specs.Settled.{HaveWeights}
-use Rattle.path_arena.specs.Arena.{Arena, Path, path_at, path_of, list_of, IsLive, no_path}
+use Rattle.path_arena.specs.Arena.{Arena, Path, path_at, path_of, list_of, IsLive}
 use Rattle.path_arena.proofs.Paths.{live_path, live_from, path_of_at}
-use Rattle.path_book.specs.Book.{Book, IsMarked, IsBook, with_kept, with_mark, kept_paths}
+use Rattle.path_book.specs.Book.{Book, IsBook, with_kept, with_mark, kept_paths}
 use Rattle.path_book.proofs.Kept.{kept_live, birth_live, kept_at}
 use Rattle.fixup.proofs.Views.{path_new, path_other, path_still}
-use Rattle.fixup.specs.Views.{Kept}
 use Rattle.fixup.specs.Growth.{IsGrown}
 
 same_path : (p q : Path) → Some p ≡ Some q → p ≡ q

@@ -1,5 +1,5 @@
 -- The heads of the pairs: which of them are held before the first class.
-use Rattle.std.specs.Prelude.{◌≡◌, ◌≢◌, ℕ, ◌+◌, ◌*◌, ◌<◌, ◌≤◌, ◌⊎◌, ◌↔◌, false, slice_index_or, List, [], ◌∷◌, length, Some, refl, Contains}
+use Rattle.std.specs.Prelude.{◌≡◌, ℕ, ◌+◌, ◌*◌, ◌<◌, ◌⊎◌, ◌↔◌, false, slice_index_or, List, [], ◌∷◌, length, Some, refl, Contains}
 use Rattle.std.specs.FinSet as set
 use Rattle.std.proofs.Common.{sym, ◌∙◌, ap, subst, arith, inl, inr}
 use Rattle.std.proofs.lemmas.Bool.{cases_lt}
@@ -8,8 +8,8 @@ use Rattle.apsp_model.specs.Walk.{IsWalk, IsWalkFrom, first, last}
 use Rattle.apsp_model.specs.Least.{IsLeast}
 use Rattle.apsp_model.specs.Local.{IsLocal, IsVertex}
 use Rattle.apsp_model.proofs.Simples.{inside_walk}
-use Rattle.path_arena.specs.Arena.{path_at, list_of, IsLive}
-use Rattle.path_book.specs.Book.{Book, IsMarked, IsBook, IsLeastKept, KeepsNone}
+use Rattle.path_arena.specs.Arena.{list_of}
+use Rattle.path_book.specs.Book.{Book, IsMarked, IsLeastKept, KeepsNone}
 use Rattle.pair_heaps.specs.Heaps.{HasEnds}
 use Rattle.weight_classes.specs.Classes.{Classes, Fits, IsHeld, IsWon, IsPushed}
 use Rattle.fixup_math.proofs.Counting.{head_in, tail_in}

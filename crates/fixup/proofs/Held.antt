@@ -1,9 +1,9 @@
 -- What the held ids are in a book that grows.
-use Rattle.std.specs.Prelude.{◌≡◌, ◌≢◌, ℕ, ◌<◌, ◌⊎◌, ◌↔◌, List, [], ◌∷◌, Some, None, is_some, unwrap_or, refl, Contains}
-use Rattle.std.proofs.Common.{sym, ◌∙◌, ap, subst, inl, inr}
-use Rattle.path_arena.specs.Arena.{Arena, Path, path_at, path_of, list_of, weight_of, IsLive, no_path}
+use Rattle.std.specs.Prelude.{◌≡◌, ℕ, ◌⊎◌, ◌↔◌, List, [], ◌∷◌, is_some, unwrap_or, refl}
+use Rattle.std.proofs.Common.{sym, ◌∙◌, ap, inl, inr}
+use Rattle.path_arena.specs.Arena.{Arena, path_at, list_of, weight_of, IsLive, no_path}
 use Rattle.path_book.specs.Book.{Book}
-use Rattle.weight_classes.specs.Classes.{Classes, HoldsAt, IsHeld, IsBucket, AreBuckets, Fits, IsPushed}
+use Rattle.weight_classes.specs.Classes.{Classes, HoldsAt, IsHeld, AreBuckets, Fits, IsPushed}
 use Rattle.fixup.specs.Views.{HeldIn}
 
 -- a held id is live and has its weight

@@ -1,12 +1,11 @@
 -- What a call that forms a join leaves.
-use Rattle.std.specs.Prelude.{◌≡◌, ◌≢◌, ℕ, ◌<◌, ◌⊎◌, List, [], ◌∷◌, ◌++◌, Option, Some, None, is_some, unwrap_or, option_to_list, MatchOption, refl, Contains}
+use Rattle.std.specs.Prelude.{◌≡◌, ◌≢◌, ℕ, ◌<◌, List, [], ◌∷◌, ◌++◌, Option, Some, None, is_some, unwrap_or, option_to_list, MatchOption, refl, Contains}
 use Rattle.std.proofs.Common.{sym, ◌∙◌, ap, subst, inl, inr}
-use Rattle.std.proofs.lemmas.Bool.{false≢true}
 use Rattle.apsp_model.specs.Walk.{first, last}
 use Rattle.apsp_model.proofs.Lists.{first-append, last-push}
-use Rattle.path_arena.specs.Arena.{Arena, Path, path_at, list_of, IsLive, IsArena, no_path, joined_path}
-use Rattle.path_arena.proofs.Paths.{live_path, live_from, path_of_at, live_apart}
-use Rattle.path_book.specs.Book.{Book, IsBook, with_kept, IsLeastKept, KeepsNone}
+use Rattle.path_arena.specs.Arena.{Arena, path_at, list_of, IsLive, IsArena, no_path, joined_path}
+use Rattle.path_arena.proofs.Paths.{live_path, path_of_at, live_apart}
+use Rattle.path_book.specs.Book.{Book, with_kept, IsLeastKept, KeepsNone}
 use Rattle.pair_heaps.specs.Heaps.{HasEnds}
 use Rattle.weight_classes.specs.Classes.{Classes, Fits, IsHeld, IsPushed}
 use Rattle.fixup_math.proofs.Counting.{head_in, tail_in}

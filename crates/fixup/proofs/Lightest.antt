@@ -1,5 +1,5 @@
 -- The least weight that is held, which rises from class to class.
-use Rattle.std.specs.Prelude.{◌≡◌, ℕ, ◌+◌, ◌-◌, ◌*◌, ◌<◌, ◌≤◌, ◌⊎◌, min, List, [], ◌∷◌, length, Contains, refl}
+use Rattle.std.specs.Prelude.{◌≡◌, ℕ, ◌+◌, ◌-◌, ◌*◌, ◌<◌, ◌≤◌, min, List, [], ◌∷◌, length, Contains, refl}
 use Rattle.std.proofs.Common.{arith, inl, inr, get_or}
 use Rattle.apsp_model.specs.declared.TheConstants.{MOST_VERTICES, MOST_WEIGHT}
 use Rattle.path_arena.specs.Arena.{Arena}

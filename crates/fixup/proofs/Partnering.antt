@@ -1,8 +1,7 @@
 -- The joins of one winner, partner by partner, as the calls make them.
 use Rattle.std.specs.FinSet as set
-use Rattle.std.specs.Prelude.{◌≡◌, ◌≢◌, ℕ, ◌+◌, ◌-◌, ◌<◌, ◌≤◌, ◌⊎◌, ◌↔◌, List, [], ◌∷◌, ◌++◌, length, Option, Some, None, IsSome, is_some, unwrap_or, option_to_list, refl, Contains}
+use Rattle.std.specs.Prelude.{◌≡◌, ◌≢◌, ℕ, ◌+◌, ◌-◌, ◌<◌, ◌⊎◌, ◌↔◌, List, [], ◌∷◌, ◌++◌, length, Some, None, is_some, unwrap_or, option_to_list, refl, Contains}
 use Rattle.std.proofs.Common.{sym, ◌∙◌, ap, subst, arith, inl, inr}
-use Rattle.std.proofs.lemmas.Bool.{true≢false, false≢true}
 use Rattle.std.proofs.lemmas.List.Elements.{Contains-append_left, Contains-append_right, Contains-append_cases}
 use Rattle.apsp_model.specs.Graph.{Graph}
 use Rattle.apsp_model.specs.Walk.{IsWalk, weight_of, first, last}
@@ -10,22 +9,21 @@ use Rattle.apsp_model.specs.Part.{left_part, right_part}
 use Rattle.apsp_model.specs.Local.{IsLocal}
 use Rattle.apsp_model.proofs.Walks.{first_is, last_is}
 use Rattle.apsp_model.proofs.Joins.{joined, left-joined, right-joined, weight-joined, IsOverlap}
-use Rattle.path_arena.specs.Arena.{Arena, Path, path_at, path_of, list_of, left_of, right_of, overlap_of, IsLive, HasAnEdge, HasParts, IsSingle, IsArena, CanJoin, no_path, joined_path}
-use Rattle.path_arena.proofs.Paths.{live_path, live_from, path_of_at, parted, Parted, live_from_edge}
-use Rattle.path_book.specs.Book.{Book, IsMarked, IsBook, IsNewList, with_kept, with_mark, HasExtensions}
+use Rattle.path_arena.specs.Arena.{Arena, path_of, list_of, left_of, right_of, overlap_of, IsLive, HasAnEdge, IsArena, CanJoin, no_path, joined_path}
+use Rattle.path_arena.proofs.Paths.{live_path, path_of_at, parted, Parted, live_from_edge}
+use Rattle.path_book.specs.Book.{Book, IsMarked, IsBook, IsNewList, with_mark}
 use Rattle.pair_heaps.specs.Heaps.{HasEnds}
-use Rattle.extension_lists.specs.Known.{Known, sides_at}
 use Rattle.weight_classes.specs.Classes.{Classes, Fits}
-use Rattle.fixup_math.proofs.Counting.{in_cons, in_nil, head_in, tail_in}
+use Rattle.fixup_math.proofs.Counting.{in_cons, in_nil, head_in}
 use Rattle.fixup_math.proofs.Promotions.{IsJoin}
 use Rattle.fixup_math.proofs.Forming.{contains_push}
 use Rattle.fixup_math.proofs.Ranks.{ByWeight}
 use Rattle.fixup_math.proofs.Winners.{join_is_not_kept}
 use Rattle.fixup_math.proofs.Partners.{IsLeftPartner, IsRightPartner, left_join, right_join, join_has_partner, left_is_not_right}
 use Rattle.fixup.specs.Joining.{IsFormed, IsJoined, IsQueuedIfLeast}
-use Rattle.fixup.proofs.Views.{mark_still, mark_new}
+use Rattle.fixup.proofs.Views.{mark_still}
 use Rattle.fixup.proofs.Growth.{id_weight}
-use Rattle.fixup.proofs.Promoting.{rank_of, todo, list_as, live_as, walks, joined_form, promoting_ends, promoting_starts}
+use Rattle.fixup.proofs.Promoting.{rank_of, todo, live_as, joined_form, promoting_ends}
 use Rattle.fixup.specs.Views.{HeldIn, Kept, Marked, WonIn}
 use Rattle.fixup.specs.Growth.{IsBehind, IsBetween, IsGrown, IsInFront, IsJoining, IsPromoting, ListedIn}
 

@@ -1,21 +1,18 @@
 -- One winner is promoted, and its joins are formed one behind another.
 use Rattle.std.specs.Prelude.{◌≡◌, ◌≢◌, ℕ, ◌+◌, ◌*◌, ◌<◌, ◌≤◌, ◌⊎◌, ◌↔◌, false, List, [], ◌∷◌, ◌++◌, length, Option, Some, None, is_some, unwrap_or, slice_index_or, refl, Contains}
 use Rattle.std.specs.FinSet as set
-use Rattle.std.specs.declared.cmp.Ordering.TheVariants.{Less}
 use Rattle.std.proofs.Common.{sym, ◌∙◌, ap, subst, arith, inl, inr}
 use Rattle.std.proofs.lemmas.Bool.{true≢false, cases_lt}
 use Rattle.apsp_model.specs.Graph.{Graph, IsGraph, HasEdge, weight_at, edge_weight}
 use Rattle.apsp_model.specs.Least.{IsLeast}
 use Rattle.apsp_model.specs.Walk.{IsWalk, IsWalkFrom, weight_of, first, last}
-use Rattle.apsp_model.specs.Order.{path_cmp, walk_cmp, IsBelow}
+use Rattle.apsp_model.specs.Order.{path_cmp}
 use Rattle.apsp_model.specs.Local.{IsLocal}
 use Rattle.apsp_model.proofs.Below.{IsUpto, upto_or_above}
-use Rattle.apsp_model.proofs.Joins.{joined}
-use Rattle.path_arena.specs.Arena.{Arena, Path, path_at, path_of, list_of, IsLive, no_path, id_cmp, joined_path}
-use Rattle.path_arena.proofs.Paths.{live_path, live_from, path_of_at}
+use Rattle.path_arena.specs.Arena.{Path, path_at, path_of, list_of, IsLive, no_path}
 use Rattle.path_book.specs.Book.{Book, IsMarked, IsBook, IsLeastKept, with_kept, with_mark}
 use Rattle.pair_heaps.specs.Heaps.{HasEnds}
-use Rattle.weight_classes.specs.Classes.{Classes, Fits, IsHeld, IsPushed, IsWon}
+use Rattle.weight_classes.specs.Classes.{Classes, Fits, IsPushed, IsWon}
 use Rattle.fixup_math.proofs.Promotions.{IsJoin}
 use Rattle.fixup_math.proofs.Counting.{in_cons, in_nil, head_in, tail_in}
 use Rattle.fixup_math.proofs.Settling.{apart_by_simple}
@@ -23,10 +20,10 @@ use Rattle.fixup_math.proofs.Ranks.{IsRank, ByWeight, weight_is_rank}
 use Rattle.fixup_math.proofs.Firsts.{IsLeastKept as IsLeastKeptOf}
 use Rattle.fixup_math.proofs.Forming.{IsForming, forming_starts, forms_pushed, forms_unpushed, contains_push}
 use Rattle.fixup_math.proofs.Winners.{IsInClass, join_is_above, join_is_not_marked, queued_then, winner_done}
-use Rattle.fixup.specs.Joining.{IsFormed, IsJoined, IsQueuedIfLeast}
-use Rattle.fixup.proofs.Views.{kept_with, marked_with, held_with, marked_then, mark_cases, path_new, path_other, path_still, list_still}
+use Rattle.fixup.specs.Joining.{IsQueuedIfLeast}
+use Rattle.fixup.proofs.Views.{kept_with, held_with, marked_then, mark_cases, path_new, path_other, path_still, list_still}
 use Rattle.fixup.proofs.Growth.{grown_with, grown_mark, id_weight}
-use Rattle.fixup.proofs.Held.{held_at, fits_there, held_pushed}
+use Rattle.fixup.proofs.Held.{held_at, held_pushed}
 use Rattle.fixup.specs.Views.{HeldIn, Kept, Marked, WonIn}
 use Rattle.fixup.specs.Growth.{IsBetween, IsGrown, IsPromoting, ListedIn}
 

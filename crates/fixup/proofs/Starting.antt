@@ -1,31 +1,23 @@
 -- The start of a settling: the edges at the vertex are formed, and the heads of the pairs are held.
-use Rattle.std.specs.Prelude.{◌≡◌, ◌≢◌, ℕ, ◌+◌, ◌<◌, ◌≤◌, ◌⊎◌, ◌↔◌, Bool, true, false, ◌==◌, ◌||◌, List, [], ◌∷◌, length, Option, Some, None, is_some, unwrap_or, refl, Contains}
-use Rattle.std.specs.FinSet as set
+use Rattle.std.specs.Prelude.{◌≡◌, ◌≢◌, ℕ, ◌+◌, ◌<◌, ◌⊎◌, ◌↔◌, true, ◌==◌, List, [], ◌∷◌, Option, Some, None, is_some, unwrap_or, refl}
 use Rattle.std.proofs.Common.{sym, ◌∙◌, ap, subst, arith, inl, inr}
-use Rattle.std.proofs.lemmas.Bool.{true≢false, false≢true, or_cases, or_left, or_right, eqb-true, eq-eqb, cases_lt}
+use Rattle.std.proofs.lemmas.Bool.{true≢false, or_cases, or_left, or_right, eqb-true, eq-eqb, cases_lt}
 use Rattle.apsp_model.specs.Graph.{Graph, IsGraph, IsEdgeOf, HasEdge, weight_at, edge_weight}
 use Rattle.apsp_model.specs.Star.{touches}
-use Rattle.apsp_model.specs.Walk.{IsWalk, IsSimple, IsWalkFrom, weight_of, first, last}
+use Rattle.apsp_model.specs.Walk.{IsWalk, IsSimple, weight_of, first}
 use Rattle.apsp_model.specs.Local.{IsLocal, IsVertex}
-use Rattle.apsp_model.specs.Paths.{KeptPath, IsKeptIn, IsHistoricalIn}
+use Rattle.apsp_model.specs.Paths.{IsKeptIn, IsHistoricalIn}
 use Rattle.apsp_model.specs.Settled.{IsReady, without_star}
-use Rattle.path_arena.specs.Arena.{Arena, Path, path_at, path_of, list_of, IsLive, no_path, edge_path, vertex_of}
-use Rattle.path_arena.proofs.Paths.{live_path, live_from, path_of_at}
-use Rattle.path_book.specs.Book.{Book, IsMarked, IsBook, IsNewList, IsLeastKept, KeepsNone, with_kept, kept_paths, kept_path}
-use Rattle.pair_heaps.specs.Heaps.{HasEnds}
+use Rattle.path_arena.specs.Arena.{edge_path, vertex_of}
+use Rattle.path_arena.proofs.Paths.{live_from, path_of_at}
+use Rattle.path_book.specs.Book.{Book, IsBook, IsNewList, kept_paths, kept_path}
 use Rattle.path_book.proofs.Kept.{kept_live, historical_marked, to_kept}
-use Rattle.weight_classes.specs.Classes.{Classes, Fits, IsHeld, IsWon, IsPushed}
-use Rattle.fixup_math.proofs.Counting.{in_cons, in_nil, head_in, tail_in}
-use Rattle.fixup_math.proofs.Start.{IsCleaned, IsEdgeAt, none_at, walk_back, weight_back}
-use Rattle.fixup_math.proofs.Firsts.{IsQueued, queued_at_start, IsLeastKept as IsLeastKeptOf}
-use Rattle.fixup_math.proofs.Ranks.{ByWeight}
-use Rattle.fixup_math.proofs.Settling.{IsSettling, settling_starts, apart_by_simple}
-use Rattle.fixup.specs.Starts.{IsEdgeFormed, IsHeadHeld}
+use Rattle.fixup_math.proofs.Counting.{in_cons, in_nil}
+use Rattle.fixup_math.proofs.Start.{IsCleaned, IsEdgeAt, none_at, weight_back}
+use Rattle.fixup.specs.Starts.{IsEdgeFormed}
 use Rattle.fixup.proofs.Views.{kept_with}
 use Rattle.fixup.proofs.Growth.{grown_none, grown_with}
-use Rattle.fixup.proofs.Held.{held_at, held_pushed}
-use Rattle.fixup.proofs.Promoting.{least_kept}
-use Rattle.fixup.specs.Views.{HeldIn, Kept, Marked, WonIn}
+use Rattle.fixup.specs.Views.{Kept, Marked}
 use Rattle.fixup.specs.Growth.{EdgesBy, IsEdging, IsGrown}
 
 same_weight : (a b : ℕ) → Some a ≡ Some b → a ≡ b

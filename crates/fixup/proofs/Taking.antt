@@ -1,15 +1,14 @@
 -- Partner by partner, as the loops take them.
-use Rattle.std.specs.Prelude.{◌≡◌, ◌≢◌, ℕ, ◌+◌, ◌<◌, ◌≤◌, List, [], ◌∷◌, ◌++◌, Contains, refl}
+use Rattle.std.specs.Prelude.{◌≡◌, ℕ, ◌+◌, ◌<◌, ◌≤◌, List, [], ◌∷◌, ◌++◌, Contains, refl}
 use Rattle.std.proofs.Common.{sym, ◌∙◌, ap, subst, arith, take, get_or, length, zero, suc, inl, inr}
 use Rattle.std.proofs.lemmas.List.{take_more}
 use Rattle.std.specs.FinSet as set
-use Rattle.apsp_model.specs.Graph.{Graph}
 use Rattle.apsp_model.specs.Walk.{IsOnceEach, first, last}
 use Rattle.path_arena.specs.Arena.{IsLive, list_of, CanJoin, joined_path}
-use Rattle.path_book.specs.Book.{Book, IsBook, IsMarked, IsNewList, with_mark}
+use Rattle.path_book.specs.Book.{Book, IsBook, IsMarked, IsNewList}
 use Rattle.weight_classes.specs.Classes.{Classes, Fits}
 use Rattle.fixup_math.proofs.Counting.{in_cons, in_nil}
-use Rattle.fixup.specs.Growth.{IsJoining, IsInFront, IsBehind}
+use Rattle.fixup.specs.Growth.{IsInFront, IsBehind}
 use Rattle.fixup.specs.Joining.{IsJoined}
 use Rattle.fixup.specs.Stages.{Stage, IsJoiningAt, AreInFront, AreBehind, IsFrontReady, IsBehindReady}
 use Rattle.fixup.proofs.Views.{mark_new}

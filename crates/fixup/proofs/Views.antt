@@ -1,15 +1,15 @@
 -- What a book and the held ids say of lists.
-use Rattle.std.specs.Prelude.{◌≡◌, ◌≢◌, ℕ, ◌<◌, ◌⊎◌, ◌↔◌, ◌||◌, List, Some, None, is_some, unwrap_or, refl}
+use Rattle.std.specs.Prelude.{◌≡◌, ◌≢◌, ℕ, ◌⊎◌, ◌↔◌, ◌||◌, List, Some, None, is_some, unwrap_or}
 use Rattle.std.specs.Ordering.{nat_cmp, eq_by_cmp}
 use Rattle.std.specs.FinSet as set
-use Rattle.std.proofs.Common.{sym, ◌∙◌, ap, subst, inl, inr}
+use Rattle.std.proofs.Common.{sym, ◌∙◌, ap, inl, inr}
 use Rattle.std.proofs.lemmas.Bool.{cases_eq, true≢false, or_cases, or_left, or_right}
 use Rattle.std.proofs.lemmas.Cmp.{nat_cmp_total}
-use Rattle.path_arena.specs.Arena.{Arena, Path, path_at, path_of, list_of, IsLive, no_path, with_path}
+use Rattle.path_arena.specs.Arena.{Path, path_at, list_of, IsLive, no_path}
 use Rattle.path_arena.proofs.Keys.{tied_key, apart_key, get_put, get_put_other}
 use Rattle.path_arena.proofs.Paths.{live_apart}
 use Rattle.path_book.specs.Book.{Book, IsMarked, IsBook, with_kept, with_mark}
-use Rattle.weight_classes.specs.Classes.{Classes, IsHeld, IsWon}
+use Rattle.weight_classes.specs.Classes.{Classes, IsHeld}
 use Rattle.fixup.specs.Views.{HeldIn, Kept, Marked}
 
 -- ---- a path that is kept anew

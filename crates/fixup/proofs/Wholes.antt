@@ -1,5 +1,5 @@
 -- From class to class, and the whole of a settling.
-use Rattle.std.specs.Prelude.{◌≡◌, ℕ, ◌+◌, ◌-◌, ◌*◌, ◌<◌, ◌≤◌, List, [], ◌∷◌, Contains, refl}
+use Rattle.std.specs.Prelude.{◌≡◌, ℕ, ◌+◌, ◌-◌, ◌<◌, ◌≤◌, List, [], ◌∷◌, Contains, refl}
 use Rattle.std.specs.Ordering.{nat_cmp, ordering_then}
 use Rattle.std.specs.declared.cmp.Ordering.TheVariants.{Less}
 use Rattle.std.proofs.Common.{sym, ◌∙◌, ap, subst, arith, drop, get_or, length, zero, suc}
@@ -13,7 +13,7 @@ use Rattle.path_arena.proofs.Paths.{live_path, path_of_at}
 use Rattle.path_arena.proofs.Puts.{weight_most}
 use Rattle.path_book.specs.Book.{Book, IsBook, IsMarked, kept_paths}
 use Rattle.weight_classes.specs.Classes.{Classes, Fits, HoldsAt, IsHeld, IsPopped, InOrder, pair_cmp, first_of, last_of}
-use Rattle.fixup.specs.Growth.{IsAt, IsBetween, IsEdging, IsQueueing}
+use Rattle.fixup.specs.Growth.{IsAt, IsEdging, IsQueueing}
 use Rattle.fixup.specs.Stages.{Start, Stage, IsStarted, IsBetweenAt, AreWinnersReady, IsWinnerReady}
 use Rattle.fixup.proofs.Classing.{class_path, class_taken, class_weight, class_done}
 use Rattle.fixup.proofs.Growth.{id_weight}

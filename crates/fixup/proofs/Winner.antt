@@ -1,18 +1,18 @@
 -- One winner, from its promotion to its last join.
-use Rattle.std.specs.Prelude.{◌≡◌, ◌≢◌, ℕ, ◌+◌, ◌<◌, ◌≤◌, List, [], ◌∷◌, ◌++◌, Some, Contains, refl}
+use Rattle.std.specs.Prelude.{◌≡◌, ℕ, ◌<◌, List, [], ◌∷◌, Some, Contains, refl}
 use Rattle.std.proofs.Common.{sym, ◌∙◌, ap, subst, arith, length, inl, inr}
 use Rattle.std.specs.FinSet as set
-use Rattle.apsp_model.specs.Walk.{IsOnceEach, IsSimple}
+use Rattle.apsp_model.specs.Walk.{IsSimple}
 use Rattle.apsp_model.specs.Part.{left_part, right_part}
 use Rattle.apsp_model.specs.Local.{IsLocal}
-use Rattle.path_arena.specs.Arena.{Arena, IsLive, list_of, left_of, right_of, path_of, no_path, HasAnEdge, vertex_of}
+use Rattle.path_arena.specs.Arena.{IsLive, list_of, left_of, right_of, no_path, HasAnEdge}
 use Rattle.std.specs.Prelude.{unwrap_or}
 use Rattle.path_book.specs.Book.{Book, IsBook, IsMarked, with_mark}
 use Rattle.path_book.proofs.Readers.{single_or_edge}
 use Rattle.extension_lists.specs.Known.{IsKnown, sides_at}
 use Rattle.weight_classes.specs.Classes.{Classes}
 use Rattle.fixup_math.proofs.Counting.{in_nil, head_in}
-use Rattle.fixup.specs.Growth.{IsBetween, IsPromoting, IsJoining, IsInFront, IsBehind}
+use Rattle.fixup.specs.Growth.{IsPromoting, IsInFront, IsBehind}
 use Rattle.fixup.specs.Views.{Marked}
 use Rattle.fixup.specs.Stages.{Stage, IsBetweenAt, IsJoiningAt, AreInFront, AreBehind}
 use Rattle.fixup.proofs.Views.{mark_still, mark_cases}

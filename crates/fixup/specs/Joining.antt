@@ -2,9 +2,9 @@
 use Rattle.std.specs.Prelude.{◌≡◌, ◌≢◌, ℕ, ◌⊎◌, None}
 use Rattle.apsp_model.specs.Walk.{first, last}
 use Rattle.path_arena.specs.Arena.{path_at, list_of, joined_path}
-use Rattle.path_book.specs.Book.{Book, IsBook, with_kept, IsLeastKept}
+use Rattle.path_book.specs.Book.{Book, with_kept, IsLeastKept}
 use Rattle.pair_heaps.specs.Heaps.{HasEnds}
-use Rattle.weight_classes.specs.Classes.{Classes, Fits, IsPushed}
+use Rattle.weight_classes.specs.Classes.{Classes, IsPushed}
 
 -- a kept path from x to y is held where it is the least of its pair
 abbrev pub IsQueuedIfLeast : Book → ℕ → ℕ → ℕ → Classes → Classes → Type 0

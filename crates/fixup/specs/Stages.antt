@@ -1,5 +1,5 @@
 -- What the calls of a settling need and leave, by where it stands.
-use Rattle.std.specs.Prelude.{◌≡◌, ℕ, ◌<◌, List, [], ◌∷◌, Contains}
+use Rattle.std.specs.Prelude.{ℕ, List, [], ◌∷◌, Contains}
 use Rattle.apsp_model.specs.Graph.{Graph}
 use Rattle.path_book.specs.Book.{Book}
 use Rattle.weight_classes.specs.Classes.{Classes}

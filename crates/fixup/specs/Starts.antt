@@ -1,5 +1,5 @@
 -- What is done before the first class: edges are kept, and the least paths that are not historical are held.
-use Rattle.std.specs.Prelude.{◌≡◌, ◌≢◌, ℕ, ◌⊎◌, Some, None}
+use Rattle.std.specs.Prelude.{◌≡◌, ℕ, ◌⊎◌, Some, None}
 use Rattle.apsp_model.specs.Graph.{Graph, weight_at}
 use Rattle.path_arena.specs.Arena.{path_at, edge_path}
 use Rattle.path_book.specs.Book.{Book, IsMarked, with_kept, IsLeastKept, KeepsNone}

@@ -1,4 +1,4 @@
-use Rattle.std.specs.Prelude.{◌≡◌, ℕ, Some, [], List, Contains, ◌∷◌}
+use Rattle.std.specs.Prelude.{◌≡◌, ℕ, Some, [], List, ◌∷◌}
 use Rattle.std.proofs.Common.{sym, ◌∙◌, ap, subst}
 use Rattle.path_arena.specs.Arena.{Arena, left_of, right_of, HasAnEdge}
 use Rattle.path_book.specs.Book.{Book}

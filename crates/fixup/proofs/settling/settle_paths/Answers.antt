@@ -1,4 +1,4 @@
-use Rattle.std.proofs.Common.{ℕ, subst}
+use Rattle.std.proofs.Common.{subst}
 use Rattle.pair_heaps.proofs.Places.{on_ok_both}
 use Rattle.fixup.specs.Growth.{IsAt, IsQueueing}
 use Rattle.fixup.specs.Stages.{Start}
