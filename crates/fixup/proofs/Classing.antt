@@ -103,14 +103,14 @@ module _ (g : Graph) (birth : ℕ) (b0 b : Book) (c : Classes) (s : IsAt g birth
   won_then : (x y : ℕ) → WonIn later x y ↔ (WonIn c x y ⊎ ((w : List ℕ) × ListedIn b winners w × IsWalkFrom g x y w))
   won_then x y = (
     λ h.
-      let x_in : x < c.vertices = subst (λ k. x < k) popped.vertices h.0 in
-      let y_in : y < c.vertices = subst (λ k. y < k) popped.vertices h.1 in
-      elim ((popped.won x y x_in y_in).0 h.2) [
-        | inl old ↦ inl (x_in, y_in, old)
-        | inr w ↦
-            let live : IsLive b.arena w.0 = live_of weight w.0 (popped.are_winners.taken w.0 w.1) in
-            inr (list_of b.arena w.0, (w.0, w.1, refl), record { walk = walk_of w.0 live; from = first_there w.0 x live w.2; to = last_there w.0 y live w.3 })
-      ],
+        let x_in : x < c.vertices = subst (λ k. x < k) popped.vertices h.0 in
+        let y_in : y < c.vertices = subst (λ k. y < k) popped.vertices h.1 in
+        elim ((popped.won x y x_in y_in).0 h.2) [
+          | inl old ↦ inl (x_in, y_in, old)
+          | inr w ↦
+              let live : IsLive b.arena w.0 = live_of weight w.0 (popped.are_winners.taken w.0 w.1) in
+              inr (list_of b.arena w.0, (w.0, w.1, refl), record { walk = walk_of w.0 live; from = first_there w.0 x live w.2; to = last_there w.0 y live w.3 })
+        ],
     λ h. elim h [
       | inl old ↦ (subst (λ k. x < k) (sym popped.vertices) old.0, subst (λ k. y < k) (sym popped.vertices) old.1, (popped.won x y old.0 old.1).1 (inl old.2))
       | inr w ↦

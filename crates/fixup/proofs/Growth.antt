@@ -42,10 +42,13 @@ grown_with g birth b0 b s id q fresh weight born lawful = record {
   new = λ k p e. elim (cases_eq k id) [
     | inl same ↦
         let is : p ≡ q = same_path p q (sym e ∙ ap (path_at (with_kept b id q).arena) same ∙ path_new b id q fresh) in
-        inr (elim (here_or_not b0.arena k) [
-          | inl was ↦ absurd (some_not_none (path_at b.arena k) was.0 (s.old k was.0 was.1) (ap (path_at b.arena) same ∙ fresh))
-          | inr none ↦ none
-        ], ap (λ r. r.birth) is ∙ born)
+        inr (
+          elim (here_or_not b0.arena k) [
+            | inl was ↦ absurd (some_not_none (path_at b.arena k) was.0 (s.old k was.0 was.1) (ap (path_at b.arena) same ∙ fresh))
+            | inr none ↦ none
+          ],
+          ap (λ r. r.birth) is ∙ born,
+        )
     | inr apart ↦ s.new k p (sym (path_other b id q fresh k apart) ∙ e)
   ];
 }
@@ -78,13 +81,17 @@ grown_births g birth b0 b s p n = (on, back)
           | inl old ↦
               let of0 : path_of b0.arena e.0 ≡ q.0 = path_of_at b0.arena e.0 q.0 old in
               inl ((birth_live b0 p n).1 (e.0, live_from b0.arena e.0 q.0 old, ap (λ r. r.list) (of0 ∙ sym of) ∙ e.2, ap (λ r. r.birth) (of0 ∙ sym of) ∙ e.3))
-          | inr new ↦ inr ((kept_live b p).1 (e.0, e.1, e.2), (λ was.
-              let d = (kept_live b0 p).0 was in
-              let r = live_path b0.arena d.0 d.1 in
-              let now : path_at b.arena d.0 ≡ Some r.0 = s.old d.0 r.0 r.1 in
-              let list : list_of b.arena d.0 ≡ p = ap (λ t. t.list) (path_of_at b.arena d.0 r.0 now ∙ sym (path_of_at b0.arena d.0 r.0 r.1)) ∙ d.2 in
-              let same : d.0 ≡ e.0 = s.lawful.once d.0 e.0 (live_from b.arena d.0 r.0 now) e.1 (list ∙ sym e.2) in
-              some_not_none (path_at b0.arena e.0) r.0 (ap (path_at b0.arena) (sym same) ∙ r.1) new.0), sym e.3 ∙ ap (λ r. r.birth) of ∙ new.1)
+          | inr new ↦ inr (
+            (kept_live b p).1 (e.0, e.1, e.2),
+            (λ was.
+                let d = (kept_live b0 p).0 was in
+                let r = live_path b0.arena d.0 d.1 in
+                let now : path_at b.arena d.0 ≡ Some r.0 = s.old d.0 r.0 r.1 in
+                let list : list_of b.arena d.0 ≡ p = ap (λ t. t.list) (path_of_at b.arena d.0 r.0 now ∙ sym (path_of_at b0.arena d.0 r.0 r.1)) ∙ d.2 in
+                let same : d.0 ≡ e.0 = s.lawful.once d.0 e.0 (live_from b.arena d.0 r.0 now) e.1 (list ∙ sym e.2) in
+                some_not_none (path_at b0.arena e.0) r.0 (ap (path_at b0.arena) (sym same) ∙ r.1) new.0),
+            sym e.3 ∙ ap (λ r. r.birth) of ∙ new.1,
+          )
         ]
 
     back : HasBirthIn (kept_paths b0) p n ⊎ (IsKeptIn (kept_paths b) p × (IsKeptIn (kept_paths b0) p → ⊥) × (n ≡ birth)) → HasBirthIn (kept_paths b) p n

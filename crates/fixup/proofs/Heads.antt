@@ -170,21 +170,21 @@ at_start g v birth b0 b c graph grown marks lists cleaned formed s = record {
     queued : IsQueued g (Marked b0) (Kept b) (HeldIn b c) (WonIn c)
     queued = queued_at_start g (Marked b0) (Kept b) (HeldIn b c) (WonIn c) (λ p h. (formed p).1 (inl (cleaned.marked_kept p h)))
         (λ x y p k walk long.
-          let e : (x < g.vertices) × (y < g.vertices) = ends_inside g x y p walk in
-          elim (s.heads x y (inl (subst (λ n. x < n) (sym grown.vertices) e.0)) (subst (λ n. y < n) (sym grown.vertices) e.1)) [
-            | inl none ↦ absurd (none k.0 k.1 (ap first k.2 ∙ walk.from, ap last k.2 ∙ walk.to))
-            | inr id ↦ (list_of b.arena id.0, least_kept g birth b0 b grown walks x y id.0 id.1, elim id.2 [ inl m ↦ inr ((marked_is (list_of b.arena id.0)).0 (id.0, m, refl)) | inr q ↦ inl q ])
-          ])
+        let e : (x < g.vertices) × (y < g.vertices) = ends_inside g x y p walk in
+        elim (s.heads x y (inl (subst (λ n. x < n) (sym grown.vertices) e.0)) (subst (λ n. y < n) (sym grown.vertices) e.1)) [
+          | inl none ↦ absurd (none k.0 k.1 (ap first k.2 ∙ walk.from, ap last k.2 ∙ walk.to))
+          | inr id ↦ (list_of b.arena id.0, least_kept g birth b0 b grown walks x y id.0 id.1, elim id.2 [ inl m ↦ inr ((marked_is (list_of b.arena id.0)).0 (id.0, m, refl)) | inr q ↦ inl q ])
+        ])
         (λ x y q h walk.
-          let d : IsHead b b.arena.vertices 0 q = s.held q h in
-          let l : IsLeastKeptOf g (Kept b) d.from d.to q = subst (IsLeastKeptOf g (Kept b) d.from d.to) d.list (least_kept g birth b0 b grown walks d.from d.to d.id d.least) in
-          let from : d.from ≡ x = same_end d.from x (sym l.walk.from ∙ walk.from) in
-          let to : d.to ≡ y = same_end d.to y (sym l.walk.to ∙ walk.to) in
-          subst (λ n. IsLeastKeptOf g (Kept b) x n q) to (subst (λ n. IsLeastKeptOf g (Kept b) n d.to q) from l))
+        let d : IsHead b b.arena.vertices 0 q = s.held q h in
+        let l : IsLeastKeptOf g (Kept b) d.from d.to q = subst (IsLeastKeptOf g (Kept b) d.from d.to) d.list (least_kept g birth b0 b grown walks d.from d.to d.id d.least) in
+        let from : d.from ≡ x = same_end d.from x (sym l.walk.from ∙ walk.from) in
+        let to : d.to ≡ y = same_end d.to y (sym l.walk.to ∙ walk.to) in
+        subst (λ n. IsLeastKeptOf g (Kept b) x n q) to (subst (λ n. IsLeastKeptOf g (Kept b) n d.to q) from l))
         (λ q h old.
-          let d : IsHead b b.arena.vertices 0 q = s.held q h in
-          let m : Marked b q = (marked_is q).1 old in
-          d.pending (subst (IsMarked b) (grown.lawful.once m.0 d.id (grown.lawful.marked_live m.0 m.1) d.least.live (m.2 ∙ sym d.list)) m.1))
+        let d : IsHead b b.arena.vertices 0 q = s.held q h in
+        let m : Marked b q = (marked_is q).1 old in
+        d.pending (subst (IsMarked b) (grown.lawful.once m.0 d.id (grown.lawful.marked_live m.0 m.1) d.least.live (m.2 ∙ sym d.list)) m.1))
 
 -- no path of the next pair is held yet
 pub head_fresh : (b : Book) (x y : ℕ) (c : Classes) → IsQueueing b x y c → (w id : ℕ) → IsHeld c w id → HasEnds b.arena id x y → ⊥

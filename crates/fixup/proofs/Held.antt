@@ -23,11 +23,14 @@ fits_there c a d vertices still fits = record { vertices = vertices ∙ fits.ver
   where
     go : (bs : List (ℕ × List ℕ)) → AreBuckets a bs → AreBuckets d bs
     go [] all = tt
-    go (b ∷ bs) all = (record {
-      some = all.0.some;
-      live = λ id h. ap is_some (still id (all.0.live id h)) ∙ all.0.live id h;
-      weight = λ id h. ap (λ o. (unwrap_or o no_path).weight) (still id (all.0.live id h)) ∙ all.0.weight id h;
-    }, go bs all.1)
+    go (b ∷ bs) all = (
+      record {
+        some = all.0.some;
+        live = λ id h. ap is_some (still id (all.0.live id h)) ∙ all.0.live id h;
+        weight = λ id h. ap (λ o. (unwrap_or o no_path).weight) (still id (all.0.live id h)) ∙ all.0.weight id h;
+      },
+      go bs all.1,
+    )
 
 pub held_pushed : (b : Book) (c d : Classes) (id : ℕ) → IsPushed c d b.arena id → (p : List ℕ) → HeldIn b d p ↔ (HeldIn b c p ⊎ (p ≡ list_of b.arena id))
 held_pushed b c d id s p = (

@@ -120,10 +120,13 @@ module _ (g : Graph) (v birth : ℕ) (b0 : Book) (lawful : IsBook b0) (vertices 
       marks = s.marks;
       kept = λ p. (
         λ k. elim ((s.kept p).0 k) [ inl old ↦ inl old | inr edge ↦ inr (elim edge [ inl d ↦ inl (d.0, (let l : d.0 < i = d.1 in omega arith), d.2, d.3) | inr d ↦ inr d ]) ],
-        λ k. (s.kept p).1 (elim k [ inl old ↦ inl old | inr edge ↦ inr (elim edge [
-          | inl d ↦ elim (below_or_here d.0 i d.1) [ inl less ↦ inl (d.0, less, d.2, d.3) | inr here ↦ absurd (true≢false (sym d.2 ∙ ap (λ u. is_some (weight_at g v u)) here ∙ ap is_some none.0)) ]
-          | inr d ↦ inr d
-        ]) ]),
+        λ k. (s.kept p).1 (elim k [
+          | inl old ↦ inl old
+          | inr edge ↦ inr (elim edge [
+            | inl d ↦ elim (below_or_here d.0 i d.1) [ inl less ↦ inl (d.0, less, d.2, d.3) | inr here ↦ absurd (true≢false (sym d.2 ∙ ap (λ u. is_some (weight_at g v u)) here ∙ ap is_some none.0)) ]
+            | inr d ↦ inr d
+          ])
+        ]),
       );
     })
     | inr made ↦ subst (IsEdging g v birth b0 (i + 1) j) (sym made.4) (record {
@@ -152,10 +155,13 @@ module _ (g : Graph) (v birth : ℕ) (b0 : Book) (lawful : IsBook b0) (vertices 
       marks = s.marks;
       kept = λ p. (
         λ k. elim ((s.kept p).0 k) [ inl old ↦ inl old | inr edge ↦ inr (elim edge [ inl d ↦ inl d | inr d ↦ inr (d.0, (let l : d.0 < j = d.1 in omega arith), d.2, d.3) ]) ],
-        λ k. (s.kept p).1 (elim k [ inl old ↦ inl old | inr edge ↦ inr (elim edge [
-          | inl d ↦ inl d
-          | inr d ↦ elim (below_or_here d.0 j d.1) [ inl less ↦ inr (d.0, less, d.2, d.3) | inr here ↦ absurd (true≢false (sym d.2 ∙ ap (λ u. is_some (weight_at g u v)) here ∙ ap is_some none.0)) ]
-        ]) ]),
+        λ k. (s.kept p).1 (elim k [
+          | inl old ↦ inl old
+          | inr edge ↦ inr (elim edge [
+            | inl d ↦ inl d
+            | inr d ↦ elim (below_or_here d.0 j d.1) [ inl less ↦ inr (d.0, less, d.2, d.3) | inr here ↦ absurd (true≢false (sym d.2 ∙ ap (λ u. is_some (weight_at g u v)) here ∙ ap is_some none.0)) ]
+          ])
+        ]),
       );
     })
     | inr made ↦ subst (IsEdging g v birth b0 i (j + 1)) (sym made.4) (record {

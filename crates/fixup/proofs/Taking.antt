@@ -78,7 +78,7 @@ module _ (birth w : ℕ) (ps : List ℕ) (b0 b : Book) (c0 c : Classes) (once : 
   front_more before after later joined lawful fits s start front =
       let j : IsJoiningAt s birth w (take i ps) s.behind b c = before s start front in
       subst (λ fs. IsJoiningAt s birth w fs s.behind after later) (sym (take_push ps i q inside at))
-        (front_step s.graph birth s.opening s.class w s.rest s.before s.held (take i ps) s.behind b c j q (front q there) apart after later joined lawful fits)
+      (front_step s.graph birth s.opening s.class w s.rest s.before s.held (take i ps) s.behind b c j q (front q there) apart after later joined lawful fits)
 
   pub behind_sides : ((s : Stage) → IsJoiningAt s birth w s.front [] b0 c0 → AreBehind s w ps → IsJoiningAt s birth w s.front (take i ps) b c) → IsBehindReady birth w ps b0 c0 → Sides w q
   behind_sides before ready =
@@ -101,4 +101,4 @@ module _ (birth w : ℕ) (ps : List ℕ) (b0 b : Book) (c0 c : Classes) (once : 
   behind_more before after later joined lawful fits s start behind =
       let j : IsJoiningAt s birth w s.front (take i ps) b c = before s start behind in
       subst (λ rs. IsJoiningAt s birth w s.front rs after later) (sym (take_push ps i q inside at))
-        (behind_step s.graph birth s.opening s.class w s.rest s.before s.held s.front (take i ps) b c j q (behind q there) apart after later joined lawful fits)
+      (behind_step s.graph birth s.opening s.class w s.rest s.before s.held s.front (take i ps) b c j q (behind q there) apart after later joined lawful fits)

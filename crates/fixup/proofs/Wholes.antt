@@ -107,7 +107,7 @@ module _ (g : Graph) (birth : ℕ) (b0 b : Book) (c : Classes) (s : IsAt g birth
 pub starts : (g : Graph) (v birth : ℕ) (b0 b : Book) (c : Classes) → IsGraph g → IsBook b0 → b0.arena.vertices ≡ g.vertices → IsReady g v (kept_paths b0) → IsEdging g v birth b0 g.vertices g.vertices b → IsQueueing b g.vertices 0 c → IsAt g birth b0 b c
 starts g v birth b0 b c graph lawful same ready edging queueing =
     at_start g v birth b0 b c graph edging.grown edging.marks lists (cleaned g v birth b0 lawful same ready) (edges_done g v birth b0 lawful same ready graph b edging)
-        (subst (λ n. IsQueueing b n 0 c) (sym edging.grown.vertices) queueing)
+    (subst (λ n. IsQueueing b n 0 c) (sym edging.grown.vertices) queueing)
   where
     lists : (id : ℕ) → IsMarked b0 id → list_of b.arena id ≡ list_of b0.arena id
     lists id m =

@@ -126,4 +126,3 @@ fn promote_all(
     }
     Ok(())
 }
-

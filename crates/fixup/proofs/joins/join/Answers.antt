@@ -38,6 +38,6 @@ returns-else-eq-clause-joined c =
     let ends : last (list_of c.args.book.now.arena c.args.r) ≡ Some c.last-to.result = ap (λ (a : Arena). last (list_of a c.args.r)) (sym c.arena-arena.ensures.lent) ∙ c.last-to.ensures.value in
     let h : c.eq.result ≡ option_eq (λ (a b : ℕ). a == b) c.least.result (Some c.in_ok-id.id) = c.eq.ensures in
     joined_left c.args.book.now c.args.l c.args.r c.args.birth c.in_ok-id.id c.form_join.new.self c.in_ok-id.ensures.fresh c.in_ok-id.ensures.formed c.first-from.result c.last-to.result begins ends c.args.classes.now
-        (λ same. c.if-from-to.false (same_vertex c.first-from.result c.last-to.result (sym begins ∙ same ∙ ends)))
-        c.least.result c.least.ensures.least
-        (λ e. true≢false (sym (eq-eqb c.in_ok-id.id c.in_ok-id.id refl) ∙ ap (λ o. option_eq (λ (a b : ℕ). a == b) o (Some c.in_ok-id.id)) (sym e) ∙ sym h ∙ c.if-eq.false))
+    (λ same. c.if-from-to.false (same_vertex c.first-from.result c.last-to.result (sym begins ∙ same ∙ ends)))
+    c.least.result c.least.ensures.least
+    (λ e. true≢false (sym (eq-eqb c.in_ok-id.id c.in_ok-id.id refl) ∙ ap (λ o. option_eq (λ (a b : ℕ). a == b) o (Some c.in_ok-id.id)) (sym e) ∙ sym h ∙ c.if-eq.false))

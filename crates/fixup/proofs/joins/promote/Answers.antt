@@ -22,10 +22,11 @@ join_in_front-requires-clause-ready c =
     let l : left_of c.args.book.now.arena c.args.winner ≡ Some c.left_part-left.result = ap (λ (a : Arena). left_of a c.args.winner) (sym same) ∙ c.left_part-left.ensures.value in
     let r : right_of c.args.book.now.arena c.args.winner ≡ Some c.right_part-right.result = ap (λ (a : Arena). right_of a c.args.winner) (sym same) ∙ c.right_part-right.ensures.value in
     let fs_are : c.deref.result.now ≡ (sides_at c.promote.new.self.lists c.left_part-left.result).left_star = c.deref.ensures.value ∙ c.in_ok-copy.ensures ∙ c.left_star.ensures.lent ∙ ap (λ (k : Known). (sides_at k c.left_part-left.result).left_star) c.lists.ensures.lent in
-    let s : Stage = c.requires.ready.0 in
-    (staged c.args.birth c.args.winner c.args.book.now c.args.classes.now s c.requires.ready.1 c.promote.new.self c.in_ok-promote.ensures.marked c.promote.ensures.lawful c.left_part-left.result c.right_part-right.result l r [],
-     started c.args.birth c.args.winner c.args.book.now c.args.classes.now s c.requires.ready.1 c.promote.new.self c.in_ok-promote.ensures.marked c.promote.ensures.lawful c.left_part-left.result c.right_part-right.result l r,
-     fronts_are c.args.birth c.args.winner c.args.book.now c.args.classes.now s c.requires.ready.1 c.promote.new.self c.in_ok-promote.ensures.marked c.promote.ensures.lawful c.left_part-left.result c.right_part-right.result l r c.deref.result.now fs_are)
+    let s : Stage = c.requires.ready.0 in (
+      staged c.args.birth c.args.winner c.args.book.now c.args.classes.now s c.requires.ready.1 c.promote.new.self c.in_ok-promote.ensures.marked c.promote.ensures.lawful c.left_part-left.result c.right_part-right.result l r [],
+      started c.args.birth c.args.winner c.args.book.now c.args.classes.now s c.requires.ready.1 c.promote.new.self c.in_ok-promote.ensures.marked c.promote.ensures.lawful c.left_part-left.result c.right_part-right.result l r,
+      fronts_are c.args.birth c.args.winner c.args.book.now c.args.classes.now s c.requires.ready.1 c.promote.new.self c.in_ok-promote.ensures.marked c.promote.ensures.lawful c.left_part-left.result c.right_part-right.result l r c.deref.result.now fs_are,
+    )
 
 pub right_star-requires : goal.right_star-requires
 right_star-requires c =
@@ -63,8 +64,8 @@ returns-clause-done c =
     let rs_are : c.deref-2.result.now ≡ (sides_at c.join_in_front.new.book.lists c.right_part-right.result).right_star = c.deref-2.ensures.value ∙ c.in_ok-copy-2.ensures ∙ c.right_star.ensures.lent ∙ ap (λ (k : Known). (sides_at k c.right_part-right.result).right_star) c.lists-2.ensures.lent in
     let fs : List ℕ = c.deref.result.now in
     on_ok c.join_behind.result (λ over s h apart.
-        let st : Stage = staged c.args.birth c.args.winner c.args.book.now c.args.classes.now s h c.promote.new.self c.in_ok-promote.ensures.marked c.promote.ensures.lawful c.left_part-left.result c.right_part-right.result l r fs in
-        let f = fronts_are c.args.birth c.args.winner c.args.book.now c.args.classes.now s h c.promote.new.self c.in_ok-promote.ensures.marked c.promote.ensures.lawful c.left_part-left.result c.right_part-right.result l r fs fs_are in
-        let j : IsJoiningAt st c.args.birth c.args.winner fs [] c.join_in_front.new.book c.join_in_front.new.classes = c.in_ok-join_in_front.ensures.done st (started c.args.birth c.args.winner c.args.book.now c.args.classes.now s h c.promote.new.self c.in_ok-promote.ensures.marked c.promote.ensures.lawful c.left_part-left.result c.right_part-right.result l r) f in
-        let d = behinds_are c.args.birth c.args.winner c.args.book.now c.args.classes.now s h c.promote.new.self c.in_ok-promote.ensures.marked c.promote.ensures.lawful c.left_part-left.result c.right_part-right.result l r fs fs_are c.join_in_front.new.book c.join_in_front.new.classes j c.deref-2.result.now rs_are in
-        winner_over c.args.birth c.args.winner c.args.book.now c.args.classes.now s h c.promote.new.self c.in_ok-promote.ensures.marked c.promote.ensures.lawful c.left_part-left.result c.right_part-right.result l r fs fs_are c.join_in_front.new.book c.join_in_front.new.classes j c.deref-2.result.now rs_are c.join_behind.new.book c.join_behind.new.classes (over st j d) apart) c.join_behind.ensures.done
+    let st : Stage = staged c.args.birth c.args.winner c.args.book.now c.args.classes.now s h c.promote.new.self c.in_ok-promote.ensures.marked c.promote.ensures.lawful c.left_part-left.result c.right_part-right.result l r fs in
+    let f = fronts_are c.args.birth c.args.winner c.args.book.now c.args.classes.now s h c.promote.new.self c.in_ok-promote.ensures.marked c.promote.ensures.lawful c.left_part-left.result c.right_part-right.result l r fs fs_are in
+    let j : IsJoiningAt st c.args.birth c.args.winner fs [] c.join_in_front.new.book c.join_in_front.new.classes = c.in_ok-join_in_front.ensures.done st (started c.args.birth c.args.winner c.args.book.now c.args.classes.now s h c.promote.new.self c.in_ok-promote.ensures.marked c.promote.ensures.lawful c.left_part-left.result c.right_part-right.result l r) f in
+    let d = behinds_are c.args.birth c.args.winner c.args.book.now c.args.classes.now s h c.promote.new.self c.in_ok-promote.ensures.marked c.promote.ensures.lawful c.left_part-left.result c.right_part-right.result l r fs fs_are c.join_in_front.new.book c.join_in_front.new.classes j c.deref-2.result.now rs_are in
+    winner_over c.args.birth c.args.winner c.args.book.now c.args.classes.now s h c.promote.new.self c.in_ok-promote.ensures.marked c.promote.ensures.lawful c.left_part-left.result c.right_part-right.result l r fs fs_are c.join_in_front.new.book c.join_in_front.new.classes j c.deref-2.result.now rs_are c.join_behind.new.book c.join_behind.new.classes (over st j d) apart) c.join_behind.ensures.done
