@@ -103,6 +103,7 @@ pub without_from_permutation : (id : ℕ) (xs ys : List ℕ) → IsPermutation x
 without_from_permutation id xs ys moved once =
     let once_then : IsOnceEach (id ∷ ys) = once_permutation xs (id ∷ ys) moved once in
     record {
+      absent = λ gone. absurd (gone (Contains-permutation (id ∷ ys) xs id (IsPermutation-sym xs (id ∷ ys) moved) (0, omega arith, refl)));
       others = λ q. (
         λ c. (Contains-permutation (id ∷ ys) xs q (IsPermutation-sym xs (id ∷ ys) moved) (Contains-append_right (id ∷ []) ys q c), λ same. once_then.0 (subst (Contains ys) same c)),
         λ h. elim (contains_cons q id ys (Contains-permutation xs (id ∷ ys) q moved h.0)) [ inl same ↦ absurd (h.1 (sym same)) | inr more ↦ more ],
@@ -118,6 +119,7 @@ without_by_swap_remove id xs i x inside at same once =
 -- nothing is taken out where the id does not stand
 pub without_absent : (id : ℕ) (xs : List ℕ) → (Contains xs id → ⊥) → IsOnceEach xs → IsWithout id xs xs
 without_absent id xs absent once = record {
+  absent = λ gone. refl;
   others = λ q. (λ c. (c, λ same. absent (subst (Contains xs) same c)), λ h. h.0);
   once = once;
 }

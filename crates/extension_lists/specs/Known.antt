@@ -53,8 +53,9 @@ pub record StandsOnlyAt (m : Known) (id l r : ℕ) : Type 0 where
   pub left_star : (k : ℕ) → Contains (sides_at m k).left_star id → k ≡ r
   pub right_star : (k : ℕ) → Contains (sides_at m k).right_star id → k ≡ l
 
--- the entries but this one, each once, in any order
+-- the entries but this one, each once, in any order; a list without it stays as it is
 pub record IsWithout (id : ℕ) (old new : List ℕ) : Type 0 where
+  pub absent : (Contains old id → ⊥) → new ≡ old
   pub others : (q : ℕ) → Contains new q ↔ (Contains old q × (q ≢ id))
   pub once : IsOnceEach new
 
