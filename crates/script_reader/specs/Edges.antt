@@ -8,7 +8,9 @@ use Rattle.apsp_model.specs.Star.{Star}
 use Rattle.graph_store.specs.Making.{no_star}
 use Rattle.graph_store.specs.Edges.{with_edge}
 use Rattle.script_reader.specs.declared.code.TheConstants.{NUMBER, VERTEX, SELF_EDGE, REPEAT, WEIGHT}
-use Rattle.script_reader.specs.Words.{is_out, is_in}
+use Rattle.script_reader.specs.declared.Group.{Group}
+use Rattle.script_reader.specs.declared.Group.TheVariants.{Out, In}
+use Rattle.script_reader.specs.Words.{is_out, is_in, group_of}
 use Rattle.script_reader.specs.Numbers.{number_of}
 use Rattle.script_reader.specs.Refused.{Refusal, refused, or_refused, ◌>>=◌}
 
@@ -35,44 +37,49 @@ weight_at_word place w = number_at place w >>= weight_in_range place
 abbrev pub is_colon : ℕ → Bool
 is_colon b = b == 58
 
--- A word behind the vertex of a star that cannot stand behind those before it: a group word a second
--- time, a word before the first group word, or one that does not have exactly one colon.
-abbrev pub is_misfit : List (List ℕ) → List ℕ → Bool
-is_misfit before w =
-    if is_out w then list_any is_out before
-    else (if is_in w then list_any is_in before
-    else (length before == 0 || not (count_by is_colon w == 1)))
+-- whether a word of the group stands among these
+abbrev pub has_group : Group → List (List ℕ) → Bool
+has_group Out words = list_any is_out words
+has_group In words = list_any is_in words
 
--- the place of the first misfit
+-- Whether a word cannot stand behind those before it, where these are behind the star's vertex: a
+-- group word that stood before, or another word that no group word stands before or that does not
+-- have exactly one colon.
+abbrev pub is_misfit : Option Group → List (List ℕ) → List ℕ → Bool
+is_misfit (Some g) before w = has_group g before
+is_misfit None before w = not (has_group Out before || has_group In before) || not (count_by is_colon w == 1)
+
+-- the place of the first word that cannot stand
 abbrev pub first_misfit : List (List ℕ) → ℕ → List (List ℕ) → Option ℕ
 first_misfit before place [] = None
-first_misfit before place (w ∷ ws) = if is_misfit before w then Some place else first_misfit (before ++ w ∷ []) (place + 1) ws
+first_misfit before place (w ∷ ws) = if is_misfit (group_of w) before w then Some place else first_misfit (before ++ w ∷ []) (place + 1) ws
 
--- the edge between the star's vertex and u, in the group `out` or in the group `in`
-abbrev pub edge_of : Star → Bool → ℕ → ℕ × ℕ
-edge_of s out u = if out then (s.vertex, u) else (u, s.vertex)
+-- the edge between the star's vertex and u
+abbrev pub edge_of : Star → Group → ℕ → ℕ × ℕ
+edge_of s Out u = (s.vertex, u)
+edge_of s In u = (u, s.vertex)
 
-abbrev pub star_with_edge : Star → Bool → ℕ → ℕ → ℕ → Result Star Refusal
-star_with_edge s out place u w =
+abbrev pub star_with_edge : Star → Group → ℕ → ℕ → ℕ → Result Star Refusal
+star_with_edge s g place u w =
     if nat_le s.vertices u then refused VERTEX place
     else (if u == s.vertex then refused SELF_EDGE place
-    else (if is_some (map.get s.edges (edge_of s out u)) then refused REPEAT place
+    else (if is_some (map.get s.edges (edge_of s g u)) then refused REPEAT place
     else (if is_no_weight w then refused WEIGHT place
-    else Ok (with_edge s (edge_of s out u) w))))
+    else Ok (with_edge s (edge_of s g u) w))))
 
--- the star with the edge of an item: both numbers are read before the edge is tested
-abbrev pub star_with_item : Star → Bool → ℕ → List ℕ → Result Star Refusal
-star_with_item s out place item =
+-- the star with the edge of an item: both its numbers are read before the edge is tested
+abbrev pub star_with_item : Star → Group → ℕ → List ℕ → Result Star Refusal
+star_with_item s g place item =
     number_at place (before_first is_colon item) >>= (λ u.
-    number_at place (after_first is_colon item) >>= (λ w. star_with_edge s out place u w))
+    number_at place (after_first is_colon item) >>= (λ w. star_with_edge s g place u w))
 
--- the star with the items of the groups
-abbrev pub star_with_groups : Star → Bool → ℕ → List (List ℕ) → Result Star Refusal
-star_with_groups s out place [] = Ok s
-star_with_groups s out place (w ∷ ws) =
-    if is_out w then star_with_groups s true (place + 1) ws
-    else (if is_in w then star_with_groups s false (place + 1) ws
-    else (star_with_item s out place w >>= (λ t. star_with_groups t out (place + 1) ws)))
+-- the star with the items of the groups, where the present group is g
+abbrev pub star_with_groups : Star → Group → ℕ → List (List ℕ) → Result Star Refusal
+star_with_groups s g place [] = Ok s
+star_with_groups s g place (w ∷ ws) =
+    if is_out w then star_with_groups s Out (place + 1) ws
+    else (if is_in w then star_with_groups s In (place + 1) ws
+    else (star_with_item s g place w >>= (λ t. star_with_groups t g (place + 1) ws)))
 
 -- the vertices that the words name
 abbrev pub vertices_at : ℕ → ℕ → List (List ℕ) → Result (List ℕ) Refusal

@@ -5,3 +5,5 @@ pub mod Refused
 pub mod Edges
 pub mod Meaning
 pub mod Answer
+pub mod Scan
+pub mod Cutter

@@ -9,6 +9,7 @@ use Rattle.script_reader.specs.declared.Command.{Command}
 use Rattle.script_reader.specs.declared.Command.TheVariants as command
 use Rattle.script_reader.specs.declared.Line.{Line}
 use Rattle.script_reader.specs.declared.Line.TheVariants.{Nothing, Vertices, Star, Edge, Cut, Dist, Path, Row, Stats, Age}
+use Rattle.script_reader.specs.declared.Group.TheVariants.{Out}
 use Rattle.script_reader.specs.Words.{words_of, is_comment, command_of}
 use Rattle.script_reader.specs.Refused.{Refusal, refused, ◌>>=◌}
 use Rattle.script_reader.specs.Edges.{number_at, vertex_at, weight_at_word, vertices_at, first_misfit, star_with_groups}
@@ -27,20 +28,21 @@ misplaced context c = if is_of_block c then Some NEEDS_LIVE else (if context.ver
 
 -- where a command takes so many words behind it, the place of the first word too many, or of the one
 -- that is missing
-abbrev pub misshapen : ℕ → List (List ℕ) → Result Line Refusal
+abbrev pub misshapen : {A : Type 0} → ℕ → List (List ℕ) → Result A Refusal
 misshapen count arguments = refused SHAPE (min (length arguments) count + 2)
 
 abbrev pub vertices_line : List (List ℕ) → Result Line Refusal
 vertices_line (w ∷ []) = number_at 2 w >>= (λ n. if nat_le 1 n && nat_le n MOST_VERTICES then Ok (Vertices n) else refused VERTEX 2)
 vertices_line arguments = misshapen 1 arguments
 
+-- the star of the first word with the items of the others, unless one of them is a misfit
+abbrev pub star_unless : Option ℕ → ℕ → List ℕ → List (List ℕ) → Result Line Refusal
+star_unless (Some place) n w ws = refused SHAPE place
+star_unless None n w ws = vertex_at n 2 w >>= (λ v. star_with_groups (no_star n v) Out 3 ws >>= (λ s. Ok (Star s)))
+
 abbrev pub star_line : ℕ → List (List ℕ) → Result Line Refusal
 star_line n [] = refused SHAPE 2
-star_line n (w ∷ ws) = fitting (first_misfit [] 3 ws)
-  where
-    fitting : Option ℕ → Result Line Refusal
-    fitting (Some place) = refused SHAPE place
-    fitting None = vertex_at n 2 w >>= (λ v. star_with_groups (no_star n v) true 3 ws >>= (λ s. Ok (Star s)))
+star_line n (w ∷ ws) = star_unless (first_misfit [] 3 ws) n w ws
 
 abbrev pub edge_line : ℕ → List (List ℕ) → Result Line Refusal
 edge_line n (a ∷ b ∷ c ∷ []) =
@@ -49,14 +51,13 @@ edge_line n (a ∷ b ∷ c ∷ []) =
     if u == v then refused SELF_EDGE 3 else (weight_at_word 4 c >>= (λ w. Ok (Edge u v w)))))
 edge_line n arguments = misshapen 3 arguments
 
-abbrev pub cut_line : ℕ → List (List ℕ) → Result Line Refusal
-cut_line n (a ∷ b ∷ []) =
-    vertex_at n 2 a >>= (λ u. vertex_at n 3 b >>= (λ v. if u == v then refused SELF_EDGE 3 else Ok (Cut u v)))
-cut_line n arguments = misshapen 2 arguments
+-- two words, each a vertex
+abbrev pub two_vertices : ℕ → List (List ℕ) → Result (ℕ × ℕ) Refusal
+two_vertices n (a ∷ b ∷ []) = vertex_at n 2 a >>= (λ x. vertex_at n 3 b >>= (λ y. Ok (x, y)))
+two_vertices n arguments = misshapen 2 arguments
 
-abbrev pub pair_line : (ℕ → ℕ → Line) → ℕ → List (List ℕ) → Result Line Refusal
-pair_line line n (a ∷ b ∷ []) = vertex_at n 2 a >>= (λ x. vertex_at n 3 b >>= (λ y. Ok (line x y)))
-pair_line line n arguments = misshapen 2 arguments
+abbrev pub cut_line : ℕ → List (List ℕ) → Result Line Refusal
+cut_line n arguments = two_vertices n arguments >>= (λ p. if p.0 == p.1 then refused SELF_EDGE 3 else Ok (Cut p.0 p.1))
 
 abbrev pub row_line : ℕ → List (List ℕ) → Result Line Refusal
 row_line n (a ∷ []) = vertex_at n 2 a >>= (λ x. Ok (Row x))
@@ -76,8 +77,8 @@ line_with command.Vertices n arguments = vertices_line arguments
 line_with command.Star n arguments = star_line n arguments
 line_with command.Edge n arguments = edge_line n arguments
 line_with command.Cut n arguments = cut_line n arguments
-line_with command.Dist n arguments = pair_line Dist n arguments
-line_with command.Path n arguments = pair_line Path n arguments
+line_with command.Dist n arguments = two_vertices n arguments >>= (λ p. Ok (Dist p.0 p.1))
+line_with command.Path n arguments = two_vertices n arguments >>= (λ p. Ok (Path p.0 p.1))
 line_with command.Row n arguments = row_line n arguments
 line_with command.Stats n arguments = stats_line arguments
 line_with command.Age n arguments = age_line n arguments

@@ -1,13 +1,19 @@
 -- The words of a line, and the commands among them.
-use Rattle.std.specs.Prelude.{ℕ, Bool, true, false, not, ◌==◌, ◌||◌, if◌then◌else◌, List, [], ◌∷◌, filter, codes, Option, Some, None}
-use Rattle.std.specs.List.{slice_split}
+use Rattle.std.specs.Prelude.{ℕ, Bool, true, false, not, ◌==◌, ◌||◌, if◌then◌else◌, List, [], ◌∷◌, drop, filter, codes, Option, Some, None}
+use Rattle.std.specs.List.{slice_split, prefix_len}
 use Rattle.std.specs.Str.{bytes_eq}
 use Rattle.script_reader.specs.declared.Command.{Command}
 use Rattle.script_reader.specs.declared.Command.TheVariants.{Vertices, Star, Edge, Cut, Dist, Path, Row, Stats, Age, Block, Ask, End}
+use Rattle.script_reader.specs.declared.Group.{Group}
+use Rattle.script_reader.specs.declared.Group.TheVariants.{Out, In}
 
 -- a tab, a carriage return or a space
 abbrev pub is_separator : ℕ → Bool
 is_separator b = b == 9 || (b == 13 || b == 32)
+
+-- what stands behind the separators that the bytes begin with
+abbrev pub behind_separators : List ℕ → List ℕ
+behind_separators bytes = drop (prefix_len is_separator bytes) bytes
 
 abbrev pub is_some_word : List ℕ → Bool
 is_some_word [] = false
@@ -39,9 +45,12 @@ command_of w =
     else (if bytes_eq w (codes "end") then Some End
     else None)))))))))))
 
--- the two words that begin a group of a star
+-- the word that begins a group of a star
 abbrev pub is_out : List ℕ → Bool
 is_out w = bytes_eq w (codes "out")
 
 abbrev pub is_in : List ℕ → Bool
 is_in w = bytes_eq w (codes "in")
+
+abbrev pub group_of : List ℕ → Option Group
+group_of w = if is_out w then Some Out else (if is_in w then Some In else None)

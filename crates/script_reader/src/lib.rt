@@ -1,7 +1,26 @@
 //! The lines of a script: what each means, or why and where it is refused.
 #![tactic(auto)]
 
+ghost use Rattle.std.specs.Prelude.{◌≡◌, ◌≤◌, false, IfOk};
+ghost use Rattle.script_reader.specs.Scan.{words_left};
+ghost use Rattle.script_reader.specs.Meaning.{line_of, line_of_words};
+ghost use Rattle.script_reader.specs.Answer.{IsAnswer, Fits};
+
+mod commands;
+mod cutter;
+mod groups;
+mod items;
+mod lines;
+mod numbers;
+mod scan;
+
+use apsp_model::MOST_VERTICES;
+use commands::{command_of, is_comment, misplaced};
+pub use cutter::{Cut, LineCutter};
 use graph_store::Star;
+use lines::line_with;
+use scan::Words;
+use std::alloc::Global;
 use std::marker::Model;
 
 /// The most bytes of a line, without its newline.
@@ -75,6 +94,15 @@ impl Model for VertexList {
     ghost view = { λ v. v.items.items };
 }
 
+impl VertexList {
+    /// The vertices.
+    pub fn items(&self) -> &[u32]
+        ensures { result.now ≡ self.now }
+    {
+        &self.items
+    }
+}
+
 /// A line that was accepted.
 #[derive(Debug, Drop)]
 pub enum Line {
@@ -105,4 +133,59 @@ enum Command {
     Block,
     Ask,
     End,
+}
+
+/// The groups of a star's items: edges from its vertex, and edges to it.
+#[derive(Clone, Copy, Debug, PartialEq, Eq)]
+enum Group {
+    Out,
+    In,
+}
+
+/// The line that the bytes are, without its newline, or why and where it is refused. The bytes are
+/// read once, or twice where the shape of a star is tested before its numbers. Memory is taken for
+/// the star, or for the vertices of `age`, alone.
+pub fn read_line(alloc: Global, bytes: &[u8], context: &Context) -> Result<Line, LineError>
+    requires vertices { context.now.vertices ≤ MOST_VERTICES }
+    requires no_blocks { (context.now.live ≡ false) × (context.now.inside ≡ false) }
+    ensures answer { IsAnswer (line_of context.now bytes.now) result }
+    ensures fits { IfOk result (Fits context.now.vertices) }
+{
+    if bytes.len() > MOST_LINE_BYTES {
+        return Err(refused(code::TOO_LONG, 0));
+    }
+    let words = Words {
+        rest: bytes,
+        place: 1,
+    };
+    line_of_words(alloc, words, context)
+}
+
+/// The line of all words.
+fn line_of_words(alloc: Global, words: Words<'_>, context: &Context) -> Result<Line, LineError>
+    requires place { words.place ≡ 1 }
+    requires vertices { context.now.vertices ≤ MOST_VERTICES }
+    ensures { IsAnswer (line_of_words context.now (words_left words.entry)) result }
+{
+    let mut words = words;
+    let Some(first) = words.next() else {
+        return Ok(Line::Nothing);
+    };
+    if is_comment(first.bytes) {
+        return Ok(Line::Nothing);
+    }
+    let Some(command) = command_of(first.bytes) else {
+        return Err(refused(code::COMMAND, 1));
+    };
+    if let Some(code) = misplaced(context, command) {
+        return Err(refused(code, 1));
+    }
+    line_with(alloc, command, context.vertices, words)
+}
+
+/// A refusal of a word or a line.
+fn refused(code: u32, place: u32) -> LineError
+    ensures { result ≡ LineError.Refused code place }
+{
+    LineError::Refused { code, place }
 }
