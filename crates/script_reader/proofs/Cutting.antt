@@ -63,6 +63,18 @@ kept_within kept bytes count size is =
     ∙ sym (take-append-add kept bytes (MOST_LINE_BYTES - length kept))
     ∙ ap (λ n. take n (kept ++ bytes)) whole
 
+-- what is kept of a content that is not too long is all of it
+pub kept_whole : (cutting : Cutting) (content : List ℕ) → StandsFor cutting content → cutting.too_long ≡ false → cutting.kept ≡ content
+kept_whole cutting content h short = h.kept ∙ take_all MOST_LINE_BYTES content (within (sym h.too_long ∙ short))
+  where
+    within : nat_lt 65536 (length content) ≡ false → length content ≤ 65536
+    within e = grind (arith, nat_tests)
+
+-- where nothing is kept there is no content
+pub no_content : (cutting : Cutting) (content : List ℕ) → StandsFor cutting content → length cutting.kept ≡ 0 → content ≡ []
+no_content cutting [] h none = refl
+no_content cutting (b ∷ content) h none = absurd (omega (arith, ap length h.kept, none))
+
 -- a longer content
 take-take_append : (n : ℕ) (xs ys : List ℕ) → take n (take n xs ++ ys) ≡ take n (xs ++ ys)
 take-take_append zero xs ys = refl

@@ -57,6 +57,7 @@ impl LineCutter {
         requires { self.old.whole ≡ false }
         ensures whole { result.whole ≡ has_newline piece.now }
         ensures used { result.used ≡ length (line_part piece.now) + (if result.whole then 1 else 0) }
+        ensures within { result.used ≤ length piece.now }
         ensures content { (content : List ℕ) → StandsFor self.old content → StandsFor self.new (content ++ line_part piece.now) }
         ensures state { self.new.whole ≡ result.whole }
         ensures lines { (input : List ℕ) → CutsLines result.whole result.used input piece.now }
@@ -118,6 +119,7 @@ impl LineCutter {
 fn line_part(piece: &[u8]) -> (&[u8], bool)
     ensures part { result.0.now ≡ line_part piece.now }
     ensures whole { result.1 ≡ has_newline piece.now }
+    ensures within { length result.0.now + (if result.1 then 1 else 0) ≤ length piece.now }
 {
     match memchr(b'\n', piece) {
         Some(place) => (&piece[..place], true),
@@ -133,5 +135,71 @@ fn extend_within(kept: &mut Vec<u8>, bytes: &[u8])
 {
     if kept.extend_from_slice(bytes).is_err() {
         unreachable!()
+    }
+}
+
+#[cfg(test)]
+mod tests {
+    use super::*;
+    use std::test::Fail;
+
+    /// Feeds a piece until nothing of it is left, and appends each line with a bar behind it.
+    fn feed_all(cutter: &mut LineCutter, piece: &[u8], lines: &mut Vec<u8>) -> Result<(), Fail>
+        requires { cutter.old.whole ≡ false }
+        ensures { cutter.new.whole ≡ false }
+    {
+        let mut rest = piece;
+        'pieces: for _ in 0..piece.len() {
+            let cut = cutter.feed(rest);
+            rest = &rest[cut.used..];
+            if cut.whole {
+                end_line(cutter, lines)?;
+            }
+        }
+        Ok(())
+    }
+
+    fn end_line(cutter: &mut LineCutter, lines: &mut Vec<u8>) -> Result<(), Fail>
+        ensures { cutter.new.whole ≡ false }
+    {
+        let appended = lines.extend_from_slice(cutter.line());
+        cutter.clear();
+        appended?;
+        lines.push(b'|')?;
+        Ok(())
+    }
+
+    #[test]
+    fn every_cutting_has_the_same_lines(rt: HostRuntime) -> Result<(), Fail> {
+        let input = b"ab\n\nc\r\n d\nrest";
+        for at in 0..input.len() {
+            let mut cutter = LineCutter::new(rt.alloc()).map_err(|_| Fail::from("memory"))?;
+            let mut lines = Vec::new(rt.alloc());
+            feed_all(&mut cutter, &input[..at], &mut lines)?;
+            feed_all(&mut cutter, &input[at..], &mut lines)?;
+            assert_eq!(rt; lines.as_slice(), b"ab||c\r| d|".as_slice(), "cut at {at}");
+            assert_eq!(rt; cutter.line(), b"rest".as_slice());
+            assert!(rt; !cutter.is_empty());
+            cutter.clear();
+            assert!(rt; cutter.is_empty());
+        }
+        Ok(())
+    }
+
+    #[test]
+    fn long_lines_are_cut_off(rt: HostRuntime) -> Result<(), Fail> {
+        for (len, too_long) in [
+            (65535usize, false),
+            (65536, false),
+            (65537, true),
+            (70000, true),
+        ] {
+            let mut cutter = LineCutter::new(rt.alloc()).map_err(|_| Fail::from("memory"))?;
+            let line = vec![in rt.alloc(); b'x'; len]?;
+            cutter.feed(&line);
+            assert_eq!(rt; cutter.too_long(), too_long, "{len} bytes");
+            assert_eq!(rt; cutter.line().len(), len.min(65536));
+        }
+        Ok(())
     }
 }

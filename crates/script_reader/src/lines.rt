@@ -57,12 +57,11 @@ fn vertices_line(words: Words<'_>) -> Result<Line, LineError>
     Ok(Line::Vertices(n as u32))
 }
 
-fn star_line(alloc: Global, n: u32, words: Words<'_>) -> Result<Line, LineError>
+fn star_line(alloc: Global, n: u32, mut words: Words<'_>) -> Result<Line, LineError>
     requires place { words.place ≡ 2 }
     requires count { IsVertexCount n }
     ensures { IsAnswer (star_line n (words_left words.entry)) result }
 {
-    let mut words = words;
     let vertex = required(&mut words)?;
     if let Some(place) = first_misfit(words) {
         return Err(refused(code::SHAPE, place));
@@ -93,7 +92,7 @@ fn cut_line(n: u32, words: Words<'_>) -> Result<Line, LineError>
 {
     let (u, v) = two_vertices(n, words)?;
     if u == v {
-        return Err(refused(code::SELF_EDGE, 3));
+        return Err(refused(code::SELF_EDGE, words.place + 1));
     }
     Ok(Line::Cut { u, v })
 }
@@ -150,20 +149,18 @@ fn vertices_at(alloc: Global, n: u32, words: Words<'_>) -> Result<Vec<u32>, Line
 }
 
 /// The word alone that is left.
-fn one(words: Words<'_>) -> Result<Word<'_>, LineError>
+fn one(mut words: Words<'_>) -> Result<Word<'_>, LineError>
     ensures { IsOne words.entry result }
 {
-    let mut words = words;
     let first = required(&mut words)?;
     at_end(words)?;
     Ok(first)
 }
 
 /// The two words that are left.
-fn two(words: Words<'_>) -> Result<(Word<'_>, Word<'_>), LineError>
+fn two(mut words: Words<'_>) -> Result<(Word<'_>, Word<'_>), LineError>
     ensures { AreTwo words.entry result }
 {
-    let mut words = words;
     let first = required(&mut words)?;
     let second = required(&mut words)?;
     at_end(words)?;
@@ -171,10 +168,9 @@ fn two(words: Words<'_>) -> Result<(Word<'_>, Word<'_>), LineError>
 }
 
 /// The three words that are left.
-fn three(words: Words<'_>) -> Result<(Word<'_>, Word<'_>, Word<'_>), LineError>
+fn three(mut words: Words<'_>) -> Result<(Word<'_>, Word<'_>, Word<'_>), LineError>
     ensures { AreThree words.entry result }
 {
-    let mut words = words;
     let first = required(&mut words)?;
     let second = required(&mut words)?;
     let third = required(&mut words)?;
@@ -194,10 +190,9 @@ fn required<'a>(words: &mut Words<'a>) -> Result<Word<'a>, LineError>
 }
 
 /// No further word may stand.
-fn at_end(words: Words<'_>) -> Result<(), LineError>
+fn at_end(mut words: Words<'_>) -> Result<(), LineError>
     ensures { IsAtEnd words.entry result }
 {
-    let mut words = words;
     match words.next() {
         Some(word) => Err(refused(code::SHAPE, word.place)),
         None => Ok(()),
