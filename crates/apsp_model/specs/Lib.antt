@@ -10,3 +10,4 @@ pub mod Kept
 pub mod Counts
 pub mod Stated
 pub mod Paths
+pub mod Settled

@@ -1,0 +1,4 @@
+pub mod Streams
+pub mod Memory
+pub mod MemoryInside
+pub mod Standard

@@ -1,0 +1,11 @@
+-- What a source has left, what a sink holds, and how often either failed.
+use Rattle.std.specs.Prelude.{ℕ, ◌+◌, ◌-◌, ◌^◌, ◌≤◌, min, List, take, length, Option}
+use Rattle.std.specs.Io.KnownBytes.{Appends}
+
+-- a count of faults rose, or stands at its last value
+abbrev pub Rose : ℕ → ℕ → Type 0
+Rose before now = min (before + 1) (2 ^ 64 - 1) ≤ now
+
+-- known bytes grow by a prefix of the piece
+abbrev pub GrowsByPrefix : Option (List ℕ) → Option (List ℕ) → List ℕ → Type 0
+GrowsByPrefix old new piece = (k : ℕ) × (k ≤ length piece) × Appends old new (take k piece)

@@ -1,0 +1,19 @@
+use Rattle.std.proofs.Common.{◌∙◌, sym, subst, arith}
+use Rattle.extension_lists.specs.Known.{Known, IsKnown, IsDropped}
+use Rattle.extension_lists.specs.Slots.{known_in}
+use Rattle.extension_lists.proofs.Places.{known_inside, known_in_forgotten}
+use Rattle.extension_lists.proofs.Changes.{dropped}
+use Rattle.extension_lists.proofs.lists.drop_from.Goals as goal
+
+pub index_mut-slot-requires : goal.index_mut-slot-requires
+index_mut-slot-requires c =
+    let known : IsKnown (known_in c.take_out-4.new.slots.items) c.args.id = c.take_out-4.ensures.still_known _ (c.take_out-3.ensures.still_known _ (c.take_out-2.ensures.still_known _ (c.take_out.ensures.still_known _ c.requires.known))) in
+    omega (arith, known_inside c.take_out-4.new.slots.items c.args.id known, c.take_out-4.new.slots.ok.0)
+
+pub returns : goal.returns
+returns c =
+    let known : IsKnown (known_in c.take_out-4.new.slots.items) c.args.id = c.take_out-4.ensures.still_known _ (c.take_out-3.ensures.still_known _ (c.take_out-2.ensures.still_known _ (c.take_out.ensures.still_known _ c.requires.known))) in
+    let m = known_in c.args.slots.now.items in
+    subst (λ (n : Known). IsDropped m n c.args.id c.args.l c.args.r)
+    (sym (known_in_forgotten c.take_out-4.new.slots.items c.args.id c.key.result c.forget.new.self known c.key.ensures.value c.forget.ensures))
+    (dropped c.args.id c.args.l c.args.r m _ _ _ _ c.requires.known c.requires.known_l c.requires.known_r c.take_out.ensures.taken c.take_out-2.ensures.taken c.take_out-3.ensures.taken c.take_out-4.ensures.taken)

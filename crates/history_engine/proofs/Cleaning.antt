@@ -1,0 +1,184 @@
+-- Which vertices are cleaned: the time of each vertex's latest update, and the powers of 2 one by one.
+use Rattle.std.specs.Prelude.{◌≡◌, ◌≢◌, ℕ, zero, suc, ◌+◌, ◌-◌, ◌*◌, ◌%◌, ◌^◌, ◌<◌, ◌≤◌, Bool, true, ◌==◌, if◌then◌else◌, List, [], ◌∷◌, ◌++◌, length, drop, refl, Option, Some, None, option_to_list, option_and_then, slice_get}
+use Rattle.std.specs.List.{list_any}
+use Rattle.std.proofs.Common.{sym, ◌∙◌, ap, subst, arith, inl, inr}
+use Rattle.std.proofs.lemmas.Bool.{cases_Bool, cases_eq, cases_lt, or_cases, or_left, or_right, eqb-true, eq-eqb, true≢false}
+use Rattle.std.proofs.lemmas.Nat.{pow-add, pow_pos, one_shl}
+use Rattle.std.proofs.lemmas.Option.{slice_get_within, none-some, same_Some}
+use Rattle.apsp_model.specs.Command.{latest_at, cleaned, cleaned_from}
+use Rattle.history_engine.specs.Times.{IsLatest}
+
+any_from : (vs : List ℕ) (k s v : ℕ) → k ≤ s → slice_get vs s ≡ Some v → list_any (λ later. later == v) (drop k vs) ≡ true
+any_from [] k s v l at = absurd (none-some v at)
+any_from (x ∷ vs) zero zero v l at = or_left (x == v) (list_any (λ later. later == v) vs) (eq-eqb x v (same_Some x v at))
+any_from (x ∷ vs) zero (suc s) v l at = or_right (x == v) (list_any (λ later. later == v) vs) (any_from vs zero s v (omega arith) at)
+any_from (x ∷ vs) (suc k) zero v l at = absurd (omega (arith, l))
+any_from (x ∷ vs) (suc k) (suc s) v l at = any_from vs k s v (omega (arith, l)) at
+
+any_is : (vs : List ℕ) (k v : ℕ) → list_any (λ later. later == v) (drop k vs) ≡ true → (s : ℕ) × (k ≤ s) × (slice_get vs s ≡ Some v)
+any_is [] zero v h = absurd (true≢false (sym h))
+any_is [] (suc k) v h = absurd (true≢false (sym h))
+any_is (x ∷ vs) zero v h = elim (or_cases (x == v) (list_any (λ later. later == v) vs) h) [
+  | inl here ↦ (0, omega arith, ap Some (eqb-true x v here))
+  | inr there ↦ let r = any_is vs zero v there in (suc r.0, omega arith, r.2)
+]
+any_is (x ∷ vs) (suc k) v h = let r = any_is vs k v h in (suc r.0, (let l : k ≤ r.0 = r.1 in omega arith), r.2)
+
+-- the vertex of time s + 1, where that is the latest update at its vertex
+pub latest_here : (vs : List ℕ) (s v : ℕ) → slice_get vs s ≡ Some v → IsLatest vs v (s + 1) → latest_at vs (s + 1) ≡ Some v
+latest_here vs s v at l =
+    let F : ℕ → Type 0 = λ t. latest_at vs t ≡ Some v in
+    let G : Option ℕ → Type 0 = λ o. option_and_then (λ w. if list_any (λ later. later == w) (drop (suc s) vs) then None else Some w) o ≡ Some v in
+    let H : Bool → Type 0 = λ b. (if b then None else Some v) ≡ Some v in
+    subst F (plus_one s) (subst G (sym at) (elim (cases_Bool (list_any (λ later. later == v) (drop (suc s) vs))) [
+      | inl found ↦ let r = any_is vs (suc s) v found in absurd (l.none_later r.0 (let k : suc s ≤ r.0 = r.1 in omega arith) r.2)
+      | inr none ↦ subst H (sym none) refl
+    ]))
+  where
+    plus_one : (n : ℕ) → suc n ≡ n + 1
+    plus_one n = omega arith
+
+-- nothing, where another update is the latest one at its vertex
+pub latest_elsewhere : (vs : List ℕ) (s v t : ℕ) → slice_get vs s ≡ Some v → IsLatest vs v t → t ≢ s + 1 → latest_at vs (s + 1) ≡ None
+latest_elsewhere vs s v t at l other =
+    let F : ℕ → Type 0 = λ t. latest_at vs t ≡ None in
+    let G : Option ℕ → Type 0 = λ o. option_and_then (λ w. if list_any (λ later. later == w) (drop (suc s) vs) then None else Some w) o ≡ None in
+    let H : Bool → Type 0 = λ b. (if b then None else Some v) ≡ None in
+    subst F (plus_one s) (subst G (sym at) (subst H (sym (found t l other)) refl))
+  where
+    plus_one : (n : ℕ) → suc n ≡ n + 1
+    plus_one n = omega arith
+
+    found : (t : ℕ) → IsLatest vs v t → t ≢ s + 1 → list_any (λ later. later == v) (drop (suc s) vs) ≡ true
+    found zero l other = absurd (l.none_later s (omega arith) at)
+    found (suc r) l other = elim (cases_lt s (suc r)) [
+      | inl before ↦ elim (cases_eq s r) [
+        | inl same ↦ absurd (other (omega (arith, same)))
+        | inr apart ↦ any_from vs (suc s) r v (between s r before apart) (l.here r (plus_one r))
+      ]
+      | inr behind ↦ absurd (l.none_later s (omega (arith, behind)) at)
+    ]
+      where
+        between : (s r : ℕ) → s < suc r → s ≢ r → suc s ≤ r
+        between s r a b = elim (cases_lt s r) [ inl l ↦ omega (arith, l) | inr h ↦ absurd (b (omega (arith, a, h))) ]
+
+-- ---- one update more
+
+get_old : (vs : List ℕ) (w s : ℕ) → s < length vs → slice_get (vs ++ w ∷ []) s ≡ slice_get vs s
+get_old [] w s l = absurd (omega (arith, l))
+get_old (x ∷ vs) w zero l = refl
+get_old (x ∷ vs) w (suc s) l = get_old vs w s (omega (arith, l))
+
+get_new : (vs : List ℕ) (w : ℕ) → slice_get (vs ++ w ∷ []) (length vs) ≡ Some w
+get_new [] w = refl
+get_new (x ∷ vs) w = get_new vs w
+
+length_more : (vs : List ℕ) (w : ℕ) → length (vs ++ w ∷ []) ≡ length vs + 1
+length_more [] w = refl
+length_more (x ∷ vs) w = let r : length (vs ++ w ∷ []) ≡ length vs + 1 = length_more vs w in omega arith
+
+-- of the vertex of the update
+pub latest_now : (vs : List ℕ) (v : ℕ) → IsLatest (vs ++ v ∷ []) v (length vs + 1)
+latest_now vs v = record {
+  made = let l : length (vs ++ v ∷ []) ≡ length vs + 1 = length_more vs v in omega arith;
+  here = λ s e. subst (λ k. slice_get (vs ++ v ∷ []) k ≡ Some v) (omega (arith, e)) (get_new vs v);
+  none_later = λ s l at. let within : s < length (vs ++ v ∷ []) = slice_get_within (vs ++ v ∷ []) s v at in let long : length (vs ++ v ∷ []) ≡ length vs + 1 = length_more vs v in omega arith;
+}
+
+-- of every other vertex
+pub latest_still : (vs : List ℕ) (w v t : ℕ) → v ≢ w → IsLatest vs v t → IsLatest (vs ++ w ∷ []) v t
+latest_still vs w v t apart l = record {
+  made = let a : t ≤ length vs = l.made in let long : length (vs ++ w ∷ []) ≡ length vs + 1 = length_more vs w in omega arith;
+  here = λ s e. let a : t ≤ length vs = l.made in get_old vs w s (omega arith) ∙ l.here s e;
+  none_later = λ s at_least at. elim (cases_lt s (length vs)) [
+    | inl old ↦ l.none_later s at_least (sym (get_old vs w s old) ∙ at)
+    | inr new ↦
+        let within : s < length (vs ++ w ∷ []) = slice_get_within (vs ++ w ∷ []) s v at in
+        let long : length (vs ++ w ∷ []) ≡ length vs + 1 = length_more vs w in
+        let is : length vs ≡ s = omega arith in
+        apart (same_Some v w (sym at ∙ subst (λ k. slice_get (vs ++ w ∷ []) k ≡ Some w) is (get_new vs w)))
+  ];
+}
+
+-- before the first update
+pub latest_none : (v : ℕ) → IsLatest [] v 0
+latest_none v = record { made = omega arith; here = λ s e. absurd (omega (arith, e)); none_later = λ s l at. none-some v at }
+
+-- ---- the powers of 2 from one on
+
+-- the vertices of the powers from number i on
+abbrev pub left_from : List ℕ → ℕ → List ℕ
+left_from vs i = cleaned_from vs i (length vs - i)
+
+plus_one : (n : ℕ) → suc n ≡ n + 1
+plus_one n = omega arith
+
+power_more : (i : ℕ) → i < 2 ^ i
+power_more zero = omega arith
+power_more (suc i) =
+    let r : i < 2 ^ i = power_more i in
+    let e : 2 ^ suc i ≡ 2 ^ i * 2 = ap (λ k. 2 ^ k) (plus_one i) ∙ pow-add 2 i 1 in
+    omega arith
+
+pub left_start : (vs : List ℕ) → cleaned vs ≡ left_from vs 0
+left_start vs = ap (cleaned_from vs 0) (none_less (length vs))
+  where
+    none_less : (n : ℕ) → n ≡ n - 0
+    none_less n = omega arith
+
+none_before : (vs : List ℕ) (n : ℕ) → n ≡ 0 → latest_at vs n ≡ None
+none_before vs zero e = refl
+none_before vs (suc n) e = absurd (omega (arith, e))
+
+-- the power of number i, and those behind it
+pub left_step : (vs : List ℕ) (i : ℕ) → left_from vs i ≡ option_to_list (latest_at vs (length vs - 2 ^ i)) ++ left_from vs (i + 1)
+left_step vs i = elim (cases_lt i (length vs)) [
+  | inl more ↦
+      ap (cleaned_from vs i) (one_less (length vs) i more)
+  | inr done ↦
+      let none : latest_at vs (length vs - 2 ^ i) ≡ None = none_before vs (length vs - 2 ^ i) (let l : i < 2 ^ i = power_more i in omega (arith, l, done)) in
+      ap (cleaned_from vs i) (let e : length vs - i ≡ 0 = omega (arith, done) in e)
+      ∙ (λ j. option_to_list (sym none j) ++ cleaned_from vs (i + 1) (sym (let e : length vs - (i + 1) ≡ 0 = omega (arith, done) in e) j))
+]
+  where
+    one_less : (n i : ℕ) → i < n → n - i ≡ suc (n - (i + 1))
+    one_less n i l = omega (arith, l)
+
+-- none, once the power is not below the number of updates
+pub left_end : (vs : List ℕ) (i : ℕ) → length vs ≤ 2 ^ i → left_from vs i ≡ []
+left_end vs i l = all_none (length vs - i) i l
+  where
+    all_none : (more i : ℕ) → length vs ≤ 2 ^ i → cleaned_from vs i more ≡ []
+    all_none zero i l = refl
+    all_none (suc more) i l =
+        let none : latest_at vs (length vs - 2 ^ i) ≡ None = none_before vs (length vs - 2 ^ i) (omega (arith, l)) in
+        let e : 2 ^ (i + 1) ≡ 2 ^ i * 2 = pow-add 2 i 1 in
+        (λ j. option_to_list (none j) ++ all_none more (i + 1) (omega (arith, l, e)) j)
+
+-- ---- what the update at v makes of an earlier update at w
+
+-- it is the latest one there still
+pub cleaned_here : (vs : List ℕ) (v w place n : ℕ) → slice_get vs place ≡ Some w → w ≢ v → IsLatest vs w (place + 1) → n ≡ place + 1 → latest_at (vs ++ v ∷ []) n ≡ Some w
+cleaned_here vs v w place n at apart l is =
+    subst (λ k. latest_at (vs ++ v ∷ []) k ≡ Some w) (sym is)
+    (latest_here (vs ++ v ∷ []) place w (get_old vs v place (slice_get_within vs place w at) ∙ at) (latest_still vs v w (place + 1) apart l))
+
+-- it is at the same vertex
+pub cleaned_same : (vs : List ℕ) (v place n : ℕ) → slice_get vs place ≡ Some v → n ≡ place + 1 → latest_at (vs ++ v ∷ []) n ≡ None
+cleaned_same vs v place n at is =
+    let within : place < length vs = slice_get_within vs place v at in
+    subst (λ k. latest_at (vs ++ v ∷ []) k ≡ None) (sym is)
+    (latest_elsewhere (vs ++ v ∷ []) place v (length vs + 1) (get_old vs v place within ∙ at) (latest_now vs v) (λ e. omega (arith, e, within)))
+
+-- it is not the latest one there
+pub cleaned_earlier : (vs : List ℕ) (v w place t n : ℕ) → slice_get vs place ≡ Some w → w ≢ v → IsLatest vs w t → t ≢ place + 1 → n ≡ place + 1 → latest_at (vs ++ v ∷ []) n ≡ None
+cleaned_earlier vs v w place t n at apart l other is =
+    subst (λ k. latest_at (vs ++ v ∷ []) k ≡ None) (sym is)
+    (latest_elsewhere (vs ++ v ∷ []) place w t (get_old vs v place (slice_get_within vs place w at) ∙ at) (latest_still vs v w t apart l) other)
+
+-- the place of the update of a power of 2 ago
+pub time_is : (len power place : ℕ) → power < 64 → (1 * 2 ^ power % 18446744073709551616 ≤ len) × (place ≡ len - 1 * 2 ^ power % 18446744073709551616) → (len + 1 - 2 ^ power ≡ place + 1) × (place < len)
+time_is len power place l h =
+    let e : 1 * 2 ^ power % 18446744073709551616 ≡ 2 ^ power = one_shl power 64 l in
+    let some : 0 < 2 ^ power = pow_pos power in
+    (omega (arith, h.0, h.1, e), omega (arith, h.0, h.1, e))

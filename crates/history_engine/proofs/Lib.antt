@@ -1,0 +1,4 @@
+pub mod Moments
+pub mod Stepping
+pub mod Cleaning
+pub mod Steps

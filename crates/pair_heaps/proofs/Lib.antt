@@ -1,0 +1,4 @@
+pub mod Orders
+pub mod Arranged
+pub mod Places
+pub mod Fits

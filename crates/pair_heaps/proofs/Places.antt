@@ -1,0 +1,230 @@
+-- The place of each pair in rows, and what a change of one pair leaves.
+use Rattle.std.specs.Prelude.{◌≡◌, ◌≢◌, ℕ, ◌+◌, ◌-◌, ◌*◌, ◌<◌, ◌≤◌, ◌⊎◌, ◌↔◌, Bool, true, false, cond, nat_lt, List, [], ◌∷◌, length, map, refl, Contains, Vec, Option, Some, None, IsSome, unwrap_or, Result, Ok, Err, OnOk, OnErr, is_ok, vec_len, vec_capacity}
+use Rattle.std.specs.declared.alloc.Global.{Global}
+use Rattle.std.specs.List.{All}
+use Rattle.std.proofs.Common.{sym, ◌∙◌, ap, subst, arith, inl, inr, get_or, set, add-one}
+use Rattle.std.proofs.lemmas.Bool.{cases_eq, cases_lt, lt-ltb, le-ltb, false≢true, true≢false}
+use Rattle.std.proofs.lemmas.Nat.{mul-add-lt}
+use Rattle.std.proofs.lemmas.List.{get_or-set_same, get_or-set_other, get_or_past, get_or-map, get_or_default, map-set, length-set, length-map, set-get_or}
+use Rattle.apsp_model.specs.Walk.{IsOnceEach, first, last}
+use Rattle.path_arena.specs.declared.id.PathId.{PathId}
+use Rattle.path_arena.specs.Arena.{Arena, Path, IsArena, IsPath, IsLive, path_at, path_of, list_of, no_path}
+use Rattle.pair_heaps.specs.Heaps.{Pair, Heaps, no_pair, place_of, pair_at, held_at, spare_at, HasEnds, ChangesOnly, IsWith, IsWithout, IsReserved, IsInserted, IsRemoved}
+use Rattle.pair_heaps.specs.Layout.{pair_of, heaps_of, IsHeaps}
+
+-- ---- places
+
+pub place_inside : (n x y : ℕ) → y < n → place_of n x y ≡ x * n + y
+place_inside n x y y_in = ap (λ b. cond b (x * n + y) (n * n)) (lt-ltb y n y_in)
+
+pub place_small : (n x y : ℕ) → x < n → y < n → place_of n x y < n * n
+place_small n x y x_in y_in = omega (arith, place_inside n x y y_in, mul-add-lt x n y n x_in y_in)
+
+one_row : (n x y u v : ℕ) → y < n → v < n → x * n + y ≡ u * n + v → x < u → ⊥
+one_row n x y u v y_in v_in e less = omega (arith, mul-add-lt x n y u less y_in)
+
+-- two pairs of one place are one pair
+pub place_once : (n x y u v : ℕ) → x < n → y < n → place_of n u v ≡ place_of n x y → (u ≡ x) × (v ≡ y)
+place_once n x y u v x_in y_in e = elim (cases_lt v n) [
+  | inl v_in ↦
+      let same : x * n + y ≡ u * n + v = sym (place_inside n x y y_in) ∙ sym e ∙ place_inside n u v v_in in
+      elim (cases_lt x u) [
+        | inl less ↦ absurd (one_row n x y u v y_in v_in same less)
+        | inr upto ↦ elim (cases_lt u x) [
+          | inl more ↦ absurd (one_row n u v x y v_in y_in (sym same) more)
+          | inr least ↦ let rows : u ≡ x = omega arith in (rows, omega (arith, same, ap (λ w. w * n) rows))
+        ]
+      ]
+  | inr past ↦ absurd (let out : place_of n u v ≡ n * n = ap (λ b. cond b (u * n + v) (n * n)) (le-ltb v n past) in omega (arith, place_small n x y x_in y_in, out, e))
+]
+
+-- ---- one pair put in place of another
+
+abbrev pub with_pair : Heaps → ℕ → ℕ → Pair → Heaps
+with_pair h x y p = record h { pairs = set h.pairs (place_of h.vertices x y) p }
+
+pub same_pair : (x y u v : ℕ) → ((u ≡ x) × (v ≡ y)) ⊎ (u ≡ x → v ≡ y → ⊥)
+same_pair x y u v = elim (cases_eq u x) [
+  | inl rows ↦ elim (cases_eq v y) [ inl columns ↦ inl (rows, columns) | inr apart ↦ inr (λ r c. apart c) ]
+  | inr apart ↦ inr (λ r c. apart r)
+]
+
+module _ (h : Heaps) (sound : IsHeaps h) (x y : ℕ) (x_in : x < h.vertices) (y_in : y < h.vertices) (p : Pair) where
+  inside : place_of h.vertices x y < length h.pairs
+  inside = let places : length h.pairs ≡ h.vertices * h.vertices = sound.places in omega (arith, place_small h.vertices x y x_in y_in)
+
+  pub with_pair_here : pair_at (with_pair h x y p) x y ≡ p
+  with_pair_here = get_or-set_same h.pairs (place_of h.vertices x y) p no_pair inside
+
+  pub with_pair_only : ChangesOnly h (with_pair h x y p) x y
+  with_pair_only = record {
+    vertices = refl;
+    others = λ u v apart. get_or-set_other h.pairs (place_of h.vertices x y) (place_of h.vertices u v) p no_pair (λ same. let one : (u ≡ x) × (v ≡ y) = place_once h.vertices x y u v x_in y_in same in apart one.0 one.1);
+  }
+
+  pub with_pair_sound : IsOnceEach p.held → IsHeaps (with_pair h x y p)
+  with_pair_sound once = record {
+    places = length-set h.pairs (place_of h.vertices x y) p ∙ sound.places;
+    once = λ k. elim (cases_eq k (place_of h.vertices x y)) [
+      | inl here ↦ subst (λ (q : Pair). IsOnceEach q.held) (sym (ap (λ j. get_or (set h.pairs (place_of h.vertices x y) p) j no_pair) here ∙ with_pair_here)) once
+      | inr other ↦ subst (λ (q : Pair). IsOnceEach q.held) (sym (get_or-set_other h.pairs (place_of h.vertices x y) k p no_pair other)) (sound.once k)
+    ];
+  }
+
+-- ---- the vectors
+
+-- the vector of a pair is replaced, so that the pair was p and is q
+pub record IsWritten (h k : Heaps) (x y : ℕ) (p q : Pair) : Type 0 where
+  pub was : pair_at h x y ≡ p
+  pub now : pair_at k x y ≡ q
+  pub only : ChangesOnly h k x y
+  pub same : q ≡ p → k ≡ h
+  pub sound : IsOnceEach q.held → IsHeaps k
+
+pub pair_read : (n x y k : ℕ) (items : List (Vec PathId Global)) (v : Vec PathId Global) → k ≡ place_of n x y → k < length items → v ≡ get_or items k v → pair_at (heaps_of n items) x y ≡ pair_of v
+pair_read n x y k items v same inside at =
+    ap (λ j. get_or (map pair_of items) j no_pair) (sym same) ∙ get_or-map pair_of items k v no_pair inside ∙ ap pair_of (sym at)
+
+written_to : (n x y k : ℕ) (items : List (Vec PathId Global)) (v w : Vec PathId Global) → IsHeaps (heaps_of n items) → x < n → y < n → k ≡ place_of n x y → k < length items → v ≡ get_or items k v → IsWritten (heaps_of n items) (heaps_of n (set items k w)) x y (pair_of v) (pair_of w)
+written_to n x y k items v w sound x_in y_in same inside at =
+    subst (λ (m : Heaps). IsWritten (heaps_of n items) m x y (pair_of v) (pair_of w)) (sym changed) (record {
+      was = was;
+      now = with_pair_here (heaps_of n items) sound x y x_in y_in (pair_of w);
+      only = with_pair_only (heaps_of n items) sound x y x_in y_in (pair_of w);
+      same = λ e. ap (λ (q : Pair). with_pair (heaps_of n items) x y q) (e ∙ sym was) ∙ ap (λ (ps : List Pair). let m : Heaps = record { vertices = n; pairs = ps } in m) (set-get_or (map pair_of items) (place_of n x y) no_pair);
+      sound = with_pair_sound (heaps_of n items) sound x y x_in y_in (pair_of w);
+    })
+  where
+    was : pair_at (heaps_of n items) x y ≡ pair_of v
+    was = pair_read n x y k items v same inside at
+
+    changed : heaps_of n (set items k w) ≡ with_pair (heaps_of n items) x y (pair_of w)
+    changed = ap (λ (ps : List Pair). let m : Heaps = record { vertices = n; pairs = ps } in m) (map-set pair_of items k w ∙ ap (λ j. set (map pair_of items) j (pair_of w)) same)
+
+pub written : (n : ℕ) (items : List (Vec PathId Global)) (h : Heaps) (x y k : ℕ) (v w : Vec PathId Global) → heaps_of n items ≡ h → IsHeaps (heaps_of n items) → x < h.vertices → y < h.vertices → k ≡ place_of h.vertices x y → v ≡ get_or items k v → IsWritten h (heaps_of n (set items k w)) x y (pair_of v) (pair_of w)
+written n items h x y k v w is sound x_in y_in same at =
+    let as_many : h.vertices ≡ n = ap (λ (m : Heaps). m.vertices) (sym is) in
+    let place : k ≡ place_of n x y = same ∙ ap (λ m. place_of m x y) as_many in
+    subst (λ (m : Heaps). IsWritten m (heaps_of n (set items k w)) x y (pair_of v) (pair_of w)) is
+    (written_to n x y k items v w sound (omega arith) (omega arith) place (let places : length (map pair_of items) ≡ n * n = sound.places in omega (arith, length-map items pair_of, place_small n x y (omega arith) (omega arith))) at)
+
+-- ---- the ends of a path are vertices
+
+first_in : (p : List ℕ) (x : ℕ) → first p ≡ Some x → Contains p x
+first_in [] x e = cc
+first_in (z ∷ p) x e = let same : z ≡ x = cc in (0, omega arith, same)
+
+last_in : (p : List ℕ) (y : ℕ) → last p ≡ Some y → Contains p y
+last_in [] y e = cc
+last_in (z ∷ []) y e = let same : z ≡ y = cc in (0, omega arith, same)
+last_in (z ∷ u ∷ p) y e = let c : Contains (u ∷ p) y = last_in (u ∷ p) y e in (c.0 + 1, let l : c.0 < length (u ∷ p) = c.1 in omega arith, ap (λ k. get_or (z ∷ u ∷ p) k y) (add-one c.0) ∙ c.2)
+
+path_inside : (a : Arena) (id v : ℕ) → IsArena a → IsLive a id → Contains (list_of a id) v → v < a.vertices
+path_inside a id v lawful live c = go (path_at a id) refl live c
+  where
+    go : (o : Option Path) → path_at a id ≡ o → IsSome o → Contains (unwrap_or o no_path).list v → v < a.vertices
+    go None e live c = absurd (false≢true live)
+    go (Some p) e live c = (lawful.paths id p e).inside v c
+
+pub ends_inside : (a : Arena) (id x y : ℕ) → IsArena a → IsLive a id → HasEnds a id x y → (x < a.vertices) × (y < a.vertices)
+ends_inside a id x y lawful live ends = (path_inside a id x lawful live (first_in (list_of a id) x ends.0), path_inside a id y lawful live (last_in (list_of a id) y ends.1))
+
+-- ---- what the calls say of their pair
+
+pub reserved : (h k : Heaps) (x y : ℕ) (p q : Pair) → IsWritten h k x y p q → q.held ≡ p.held → 1 ≤ q.spare → IsReserved h k x y
+reserved h k x y p q w held spare = record {
+  only = w.only;
+  held = ap (λ r. r.held) w.now ∙ held ∙ sym (ap (λ r. r.held) w.was);
+  spare = omega (arith, ap (λ r. r.spare) w.now);
+}
+
+-- the ids of every pair stay
+pub held_stays : (h k : Heaps) (x y : ℕ) (p q : Pair) → IsWritten h k x y p q → q.held ≡ p.held → (u v : ℕ) → held_at k u v ≡ held_at h u v
+held_stays h k x y p q w held u v = elim (same_pair x y u v) [
+  | inl one ↦ ap (λ z. held_at k z v) one.0 ∙ ap (λ z. held_at k x z) one.1 ∙ ap (λ r. r.held) w.now ∙ held ∙ sym (ap (λ r. r.held) w.was) ∙ sym (ap (λ z. held_at h x z) one.1) ∙ sym (ap (λ z. held_at h z v) one.0)
+  | inr other ↦ ap (λ r. r.held) (w.only.others u v other)
+]
+
+pub inserted : (h k : Heaps) (id x y : ℕ) (p q : Pair) → IsWritten h k x y p q → IsWith id p.held q.held → p.spare ≤ q.spare + 1 → IsInserted h k id x y
+inserted h k id x y p q w held spare = record {
+  only = w.only;
+  held = subst (λ (r : Pair). IsWith id r.held (held_at k x y)) (sym w.was) (subst (λ (r : Pair). IsWith id p.held r.held) (sym w.now) held);
+  spare = omega (arith, ap (λ r. r.spare) w.now, ap (λ r. r.spare) w.was);
+}
+
+pub removed : (h k : Heaps) (id x y : ℕ) (p q : Pair) → IsWritten h k x y p q → IsWithout id p.held q.held → p.spare ≤ q.spare → IsRemoved h k id x y
+removed h k id x y p q w held spare = record {
+  only = w.only;
+  held = subst (λ (r : Pair). IsWithout id r.held (held_at k x y)) (sym w.was) (subst (λ (r : Pair). IsWithout id p.held r.held) (sym w.now) held);
+  spare = omega (arith, ap (λ r. r.spare) w.now, ap (λ r. r.spare) w.was);
+}
+
+-- ---- by the ends of the path
+
+-- a path has one pair of ends
+pub at_ends : (a : Arena) (id x y : ℕ) (P : ℕ → ℕ → Type 0) → HasEnds a id x y → P x y → (u v : ℕ) → HasEnds a id u v → P u v
+at_ends a id x y P ends p u v other =
+    let firsts : Some x ≡ Some u = sym ends.0 ∙ other.0 in
+    let lasts : Some y ≡ Some v = sym ends.1 ∙ other.1 in
+    let rows : x ≡ u = cc in
+    let columns : y ≡ v = cc in
+    subst (λ r. P r v) rows (subst (P x) columns p)
+
+pub on_ok : {A E P Q : Type 0} (r : Result A E) → (P → Q) → OnOk r P → OnOk r Q
+on_ok (Ok a) f p = f p
+on_ok (Err e) f p = p
+
+pub on_ok_both : {A E P Q S : Type 0} (r : Result A E) → (P → Q → S) → OnOk r P → OnOk r Q → OnOk r S
+on_ok_both (Ok a) f p q = f p q
+on_ok_both (Err e) f p q = p
+
+pub on_err : {A E P Q : Type 0} (r : Result A E) → (P → Q) → OnErr r P → OnErr r Q
+on_err (Ok a) f p = p
+on_err (Err e) f p = f p
+
+-- a result of as good a success
+pub on_ok_as : {A B E F P Q : Type 0} (r : Result A E) (s : Result B F) → is_ok s ≡ is_ok r → (P → Q) → OnOk r P → OnOk s Q
+on_ok_as (Ok a) (Ok b) e f p = f p
+on_ok_as (Ok a) (Err b) e f p = absurd (false≢true e)
+on_ok_as (Err a) (Ok b) e f p = absurd (true≢false e)
+on_ok_as (Err a) (Err b) e f p = p
+
+pub on_err_as : {A B E F P Q : Type 0} (r : Result A E) (s : Result B F) → is_ok s ≡ is_ok r → (P → Q) → OnErr r P → OnErr s Q
+on_err_as (Ok a) (Ok b) e f p = p
+on_err_as (Ok a) (Err b) e f p = absurd (false≢true e)
+on_err_as (Err a) (Ok b) e f p = absurd (true≢false e)
+on_err_as (Err a) (Err b) e f p = f p
+
+-- what a success says, where another result is as good
+pub from_ok : {A B E F P : Type 0} (r : Result A E) (s : Result B F) (b : B) → s ≡ Ok b → is_ok s ≡ is_ok r → OnOk r P → P
+from_ok (Ok a) s b e same p = p
+from_ok (Err a) s b e same p = absurd (true≢false (sym (ap is_ok e) ∙ same))
+
+-- ---- vectors that hold nothing
+
+pub none_held : (items : List (Vec PathId Global)) → All (λ v. v.items ≡ []) items → (k : ℕ) → (get_or (map pair_of items) k no_pair).held ≡ []
+none_held items none k = elim (cases_lt k (length items)) [
+  | inl inside ↦ at_place items k inside none
+  | inr past ↦ ap (λ p. p.held) (get_or_past (map pair_of items) k no_pair (omega (arith, length-map items pair_of)))
+]
+  where
+    at_place : (items : List (Vec PathId Global)) (k : ℕ) → k < length items → All (λ v. v.items ≡ []) items → (get_or (map pair_of items) k no_pair).held ≡ []
+    at_place [] k inside none = absurd (omega arith)
+    at_place (v ∷ items) k inside none = ap (λ p. p.held) (get_or-map pair_of (v ∷ items) k v no_pair inside) ∙ none k v inside
+
+pub sound_none : (n : ℕ) (items : List (Vec PathId Global)) → length items ≡ n * n → All (λ v. v.items ≡ []) items → IsHeaps (heaps_of n items)
+sound_none n items places none = record {
+  places = length-map items pair_of ∙ places;
+  once = λ k. subst IsOnceEach (sym (none_held items none k)) tt;
+}
+
+-- ---- the vector that was
+
+pub same_pair_of : (v w : Vec PathId Global) → w.items ≡ v.items → vec_len w ≡ vec_len v → vec_capacity w ≡ vec_capacity v → pair_of w ≡ pair_of v
+same_pair_of v w items lens capacities = ap (λ (ids : List ℕ). let p : Pair = record { held = ids; spare = vec_capacity w - vec_len w } in p) items ∙ ap (λ k. let p : Pair = record { held = v.items; spare = k } in p) (omega arith)
+
+pub sound_now : (h k : Heaps) → h ≡ k → IsHeaps h → IsHeaps k
+sound_now h k same sound = subst IsHeaps same sound
+
+pub once_before : (h k : Heaps) (x y : ℕ) (p q : Pair) → IsWritten h k x y p q → IsHeaps h → IsOnceEach p.held
+once_before h k x y p q w sound = subst (λ (r : Pair). IsOnceEach r.held) w.was (sound.once (place_of h.vertices x y))

@@ -1,0 +1,6 @@
+use Rattle.std.proofs.Common.{◌≡◌}
+use Rattle.pair_heaps.specs.Heaps.{Fits}
+use Rattle.pair_heaps.proofs.tests.comes_out.Given as goal
+
+abbrev pub invariant-emptying : goal.invariant-emptying
+invariant-emptying l = Fits l.heaps l.arena

@@ -1,0 +1,7 @@
+pub mod Keys
+pub mod Slots
+pub mod Paths
+pub mod Stores
+pub mod Puts
+pub mod Calls
+pub mod Steps

@@ -1,0 +1,15 @@
+pub mod Tables
+pub mod Kept
+pub mod Sets
+pub mod Places
+pub mod Sides
+pub mod Entering
+pub mod Admitting
+pub mod Formed
+pub mod Counts
+pub mod Promoted
+pub mod Forgotten
+pub mod Readers
+pub mod Forms
+pub mod Lookups
+pub mod Opening

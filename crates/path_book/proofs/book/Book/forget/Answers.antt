@@ -1,0 +1,68 @@
+use Rattle.std.proofs.Common.{◌≡◌, ◌≤◌, ◌-◌, Bool, true, false, if◌then◌else◌, refl, sym, ◌∙◌, ap, subst}
+use Rattle.std.specs.FinSet as set
+use Rattle.path_arena.specs.Arena.{HasAnEdge, IsPartOfNone, without_path, left_of, right_of, path_of}
+use Rattle.extension_lists.specs.Known.{IsDropped}
+use Rattle.path_book.specs.Book.{Book, left_id, right_id, IsBook}
+use Rattle.path_book.specs.Layout.{view_of, marked_in, mark_at, IsStored}
+use Rattle.path_book.proofs.Places.{contains-marked_in}
+use Rattle.path_book.proofs.Forgotten.{LeftOver, left_over_now, empty_lists, stands_only, is_held}
+use Rattle.path_book.proofs.book.Book.forget.Goals as goal
+
+pub remove-requires-clause-held : goal.remove-requires-clause-held
+remove-requires-clause-held c = is_held (view_of c.self.inside) c.self.inside.heaps c.args.id c.self.invariant.book c.self.invariant.heaps (subst (λ (b : Book). HasAnEdge b.arena c.args.id) (sym c.self.view_is) c.requires.edge)
+
+pub drop_id-requires-clause-empty : goal.drop_id-requires-clause-empty
+drop_id-requires-clause-empty c = empty_lists (view_of c.self.inside) c.args.id c.self.invariant.book (subst (λ (b : Book). IsPartOfNone b.arena c.args.id) (sym c.self.view_is) c.requires.free)
+
+pub drop_id-requires-clause-nowhere_else : goal.drop_id-requires-clause-nowhere_else
+drop_id-requires-clause-nowhere_else c = stands_only (view_of c.self.inside) c.args.id _ _ c.self.invariant.book c.left_part-left.ensures.value c.right_part-right.ensures.value
+
+pub overflow_sub-self : goal.overflow_sub-self
+overflow_sub-self c =
+    let left : LeftOver (view_of c.self.inside) c.args.id c.remove.new.self c.remove-2.new.self c.drop_id.new.self c.clear.new.marks.items c.self.inside.historical c.self.inside.pending true =
+    left_over_now (view_of c.self.inside) c.args.id c.key.result c.self.inside.heaps c.remove.new.self c.remove-2.new.self _ _ c.drop_id.new.self c.self.inside.marks.items c.clear.new.marks.items _ _ true c.self.invariant
+    (subst (λ (b : Book). HasAnEdge b.arena c.args.id) (sym c.self.view_is) c.requires.edge)
+    (subst (λ (b : Book). IsPartOfNone b.arena c.args.id) (sym c.self.view_is) c.requires.free)
+    refl c.key.ensures.value c.remove-2.ensures.removed c.left_part-left.ensures.value c.right_part-right.ensures.value c.drop_id.ensures c.remove.ensures.fits c.remove.ensures.removed
+    (sym c.if-clear.true ∙ c.clear.ensures.was) c.clear.ensures.cleared in
+    left.some
+
+-- what is left where the path was historical
+was_marked : (c : goal.After-self-1) → LeftOver (view_of c.self.inside) c.args.id c.remove.new.self c.remove-2.new.self c.drop_id.new.self c.clear.new.marks.items c.self.inside.historical c.self.inside.pending true
+was_marked c =
+    left_over_now (view_of c.self.inside) c.args.id c.key.result c.self.inside.heaps c.remove.new.self c.remove-2.new.self _ _ c.drop_id.new.self c.self.inside.marks.items c.clear.new.marks.items _ _ true c.self.invariant
+    (subst (λ (b : Book). HasAnEdge b.arena c.args.id) (sym c.self.view_is) c.requires.edge)
+    (subst (λ (b : Book). IsPartOfNone b.arena c.args.id) (sym c.self.view_is) c.requires.free)
+    refl c.key.ensures.value c.remove-2.ensures.removed c.left_part-left.ensures.value c.right_part-right.ensures.value c.drop_id.ensures c.remove.ensures.fits c.remove.ensures.removed
+    (sym c.if-clear.true ∙ c.clear.ensures.was) c.clear.ensures.cleared
+
+pub invariant_of-self : goal.invariant_of-self
+invariant_of-self c = (was_marked c).stored
+
+pub returns-then-clear-clause-lawful : goal.returns-then-clear-clause-lawful
+returns-then-clear-clause-lawful c = (was_marked c).stored.book
+
+pub overflow_sub-self-else-clear : goal.overflow_sub-self-else-clear
+overflow_sub-self-else-clear c =
+    let left : LeftOver (view_of c.self.inside) c.args.id c.remove.new.self c.remove-2.new.self c.drop_id.new.self c.clear.new.marks.items c.self.inside.historical c.self.inside.pending false =
+    left_over_now (view_of c.self.inside) c.args.id c.key.result c.self.inside.heaps c.remove.new.self c.remove-2.new.self _ _ c.drop_id.new.self c.self.inside.marks.items c.clear.new.marks.items _ _ false c.self.invariant
+    (subst (λ (b : Book). HasAnEdge b.arena c.args.id) (sym c.self.view_is) c.requires.edge)
+    (subst (λ (b : Book). IsPartOfNone b.arena c.args.id) (sym c.self.view_is) c.requires.free)
+    refl c.key.ensures.value c.remove-2.ensures.removed c.left_part-left.ensures.value c.right_part-right.ensures.value c.drop_id.ensures c.remove.ensures.fits c.remove.ensures.removed
+    (sym c.if-clear.false ∙ c.clear.ensures.was) c.clear.ensures.cleared in
+    left.some
+
+-- what is left where the path was not historical
+was_pending : (c : goal.After-self-else-clear-1) → LeftOver (view_of c.self.inside) c.args.id c.remove.new.self c.remove-2.new.self c.drop_id.new.self c.clear.new.marks.items c.self.inside.historical c.self.inside.pending false
+was_pending c =
+    left_over_now (view_of c.self.inside) c.args.id c.key.result c.self.inside.heaps c.remove.new.self c.remove-2.new.self _ _ c.drop_id.new.self c.self.inside.marks.items c.clear.new.marks.items _ _ false c.self.invariant
+    (subst (λ (b : Book). HasAnEdge b.arena c.args.id) (sym c.self.view_is) c.requires.edge)
+    (subst (λ (b : Book). IsPartOfNone b.arena c.args.id) (sym c.self.view_is) c.requires.free)
+    refl c.key.ensures.value c.remove-2.ensures.removed c.left_part-left.ensures.value c.right_part-right.ensures.value c.drop_id.ensures c.remove.ensures.fits c.remove.ensures.removed
+    (sym c.if-clear.false ∙ c.clear.ensures.was) c.clear.ensures.cleared
+
+pub invariant_of-self-else-clear : goal.invariant_of-self-else-clear
+invariant_of-self-else-clear c = (was_pending c).stored
+
+pub returns-else-clear-clause-lawful : goal.returns-else-clear-clause-lawful
+returns-else-clear-clause-lawful c = (was_pending c).stored.book

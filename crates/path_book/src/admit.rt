@@ -1,0 +1,86 @@
+//! A new path is put into the parts of a book.
+
+ghost use Rattle.std.specs.Prelude.{◌≡◌, ℕ, ◌≤◌, Some, [], OnOk, OnErr};
+ghost use Rattle.std.specs.FinMap as map;
+ghost use Rattle.path_arena.specs.Arena.{HasAnEdge, without_path, IsPartOfNone, IsArena};
+ghost use Rattle.pair_heaps.specs.Heaps.{IsHeld};
+ghost use Rattle.extension_lists.specs.Known.{IsKnown};
+ghost use Rattle.path_book.specs.Admitted.{StandsNowhere, CanEnter, HasRoom, IsAdmitted};
+ghost use Rattle.path_book.specs.Book.{entered};
+ghost use Rattle.path_book.specs.Layout.{IsOpenedTo};
+
+use crate::marks::make_room;
+use apsp_model::Memory;
+use extension_lists::Lists;
+use pair_heaps::Heaps;
+use path_arena::{Arena, PathId};
+
+/// Puts a path that is new in the arena into the heap of its pair and the lists of its parts. Where
+/// there is no memory it is taken out of the arena again.
+pub(crate) fn admit(
+    arena: &mut Arena,
+    heaps: &mut Heaps,
+    lists: &mut Lists,
+    id: PathId,
+) -> Result<(), Memory>
+    requires lawful { IsArena arena.old }
+    requires edge { HasAnEdge arena.old id }
+    requires free { IsPartOfNone arena.old id }
+    requires room { HasRoom arena.old heaps.old id }
+    requires new { IsHeld heaps.old id → ⊥ }
+    requires lists { CanEnter arena.old lists.old id }
+    ensures kept { OnOk result (arena.new ≡ arena.old) }
+    ensures admitted { OnOk result (IsAdmitted arena.new heaps.old heaps.new lists.old lists.new id) }
+    ensures taken_back { OnErr result (arena.new ≡ without_path arena.old id) }
+    ensures heaps_kept { OnErr result (heaps.new ≡ heaps.old) }
+    ensures lists_kept { OnErr result (lists.new ≡ lists.old) }
+{
+    let (left, right) = (arena.left_part(id), arena.right_part(id));
+    if enter(lists, id, left, right).is_err() {
+        arena.remove(id);
+        return Err(Memory);
+    }
+    // There is room, so it takes none.
+    let _ = heaps.insert(arena, id);
+    Ok(())
+}
+
+/// Lets the lists know an id, as an extension of its two parts.
+fn enter(lists: &mut Lists, id: PathId, left: PathId, right: PathId) -> Result<(), Memory>
+    requires new { IsKnown lists.old id → ⊥ }
+    requires left_known { IsKnown lists.old left }
+    requires right_known { IsKnown lists.old right }
+    requires nowhere { StandsNowhere lists.old id }
+    ensures entered { OnOk result (lists.new ≡ entered lists.old id left right) }
+    ensures same { OnErr result (lists.new ≡ lists.old) }
+{
+    lists.enter(id)?;
+    match lists.add(id, left, right) {
+        Ok(()) => Ok(()),
+        Err(memory) => {
+            lists.drop_id(id, left, right);
+            Err(memory)
+        }
+    }
+}
+
+/// Lets the lists know the single vertices, and marks them.
+pub(crate) fn enter_vertices(
+    arena: &Arena,
+    lists: &mut Lists,
+    marks: &mut Vec<bool>,
+    n: u32,
+) -> Result<(), Memory>
+    requires vertices { arena.now.vertices ≡ n }
+    requires no_lists { lists.old ≡ map.empty }
+    requires no_marks { marks.old.items ≡ [] }
+    ensures { OnOk result (IsOpenedTo arena.now lists.new marks.new.items n) }
+{
+    for v in 0..n {
+        let id = arena.vertex(v);
+        lists.enter(id)?;
+        make_room(marks, id.key())?;
+        marks[id.key()] = true;
+    }
+    Ok(())
+}

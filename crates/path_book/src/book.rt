@@ -1,0 +1,234 @@
+//! The book of kept paths.
+
+ghost use Rattle.std.specs.Prelude.{◌≡◌, ◌≢◌, ℕ, ◌<◌, ◌≤◌, ◌^◌, ◌↔◌, ◌∷◌, [], All, Some, IfNone, IfOk, IfSome, OnOk, OnErr, MatchOption, Contains, length};
+ghost use Rattle.std.specs.FinSet as set;
+ghost use Rattle.apsp_model.specs.Paths.{IsKeptIn, HasBirthIn};
+ghost use Rattle.path_arena.specs.Arena.{path_at, IsLive, HasAnEdge, edge_path, joined_path, IsPartOfNone, CanJoin};
+ghost use Rattle.path_book.specs.Book.{IsBook, IsMarked, IsOpening, kept_paths, IsNewList, with_kept, with_mark, IsForgotten, IsLeastKept, KeepsNone, PathsCount, HistoricalCount};
+
+use crate::admit::{admit, enter_vertices};
+use crate::marks::{clear, is_marked, make_room};
+use apsp_model::{MOST_VERTICES, Memory};
+use extension_lists::Lists;
+use pair_heaps::Heaps;
+use path_arena::{Arena, PathId};
+use std::alloc::Global;
+use std::marker::Model;
+
+/// More paths than any machine has room for, so that every count fits.
+const MOST_PATHS: u64 = 1 << 48;
+
+/// The kept paths. Contracts see them by id, with the ids of those that are historical.
+#[derive(Drop)]
+pub struct Book {
+    arena: Arena,
+    heaps: Heaps,
+    lists: Lists,
+    // Whether the path of a key is historical; a key past the end is not.
+    marks: Vec<bool>,
+    // How many paths with an edge are historical, and how many are not yet.
+    historical: u64,
+    pending: u64,
+}
+
+impl Model for Book {
+    ghost use Rattle.path_book.specs.Book.{Book as Kept, book_code};
+
+    ghost Value = { Kept };
+
+    ghost coded = { book_code };
+
+    ghost use Rattle.path_book.specs.Layout.{view_of, IsSound};
+
+    ghost view = { view_of };
+
+    ghost invariant = { IsSound };
+}
+
+impl Book {
+    ghost use Rattle.path_book.specs.Layout.{IsExtensionTo};
+
+    /// Keeps the single vertices.
+    pub fn new(alloc: Global, n: u32) -> Result<Book, Memory>
+        requires some { 1 ≤ n }
+        requires most { n ≤ MOST_VERTICES }
+        ensures opening { IfOk result (λ b. IsOpening b n) }
+        ensures lawful { IfOk result IsBook }
+    {
+        let arena = Arena::new(alloc, n)?;
+        let heaps = Heaps::new(alloc, n)?;
+        let mut lists = Lists::new(alloc);
+        let mut marks = Vec::new(alloc);
+        enter_vertices(&arena, &mut lists, &mut marks, n)?;
+        Ok(Book {
+            arena,
+            heaps,
+            lists,
+            marks,
+            historical: 0,
+            pending: 0,
+        })
+    }
+
+    /// Keeps the path u, v. Memory changes nothing.
+    pub fn form_edge(&mut self, u: u32, v: u32, w: u32, birth: u64) -> Result<PathId, Memory>
+        requires from { u < self.old.arena.vertices }
+        requires to { v < self.old.arena.vertices }
+        requires apart { u ≢ v }
+        requires new { IsNewList self.old (u ∷ v ∷ []) }
+        ensures fresh { IfOk result (λ id. path_at self.old.arena id ≡ None) }
+        ensures formed { IfOk result (λ id. self.new ≡ with_kept self.old id (edge_path self.old.arena u v w birth)) }
+        ensures lawful { IsBook self.new }
+        ensures memory { OnErr result (self.new ≡ self.old) }
+    {
+        if self.historical + self.pending == MOST_PATHS {
+            return Err(Memory);
+        }
+        self.heaps.reserve(u, v)?;
+        let id = self.arena.edge(u, v, w, birth)?;
+        admit(&mut self.arena, &mut self.heaps, &mut self.lists, id)?;
+        self.pending += 1;
+        Ok(id)
+    }
+
+    /// Keeps the join of two historical paths, which is not historical yet. Memory changes nothing.
+    pub fn form_join(&mut self, l: PathId, r: PathId, birth: u64) -> Result<PathId, Memory>
+        requires join { CanJoin self.old.arena l r }
+        requires left { IsMarked self.old l }
+        requires right { IsMarked self.old r }
+        requires new { IsNewList self.old (joined_path self.old.arena l r birth).list }
+        ensures fresh { IfOk result (λ id. path_at self.old.arena id ≡ None) }
+        ensures formed { IfOk result (λ id. self.new ≡ with_kept self.old id (joined_path self.old.arena l r birth)) }
+        ensures lawful { IsBook self.new }
+        ensures memory { OnErr result (self.new ≡ self.old) }
+    {
+        if self.historical + self.pending == MOST_PATHS {
+            return Err(Memory);
+        }
+        self.heaps.reserve(self.arena.first(l), self.arena.last(r))?;
+        let id = self.arena.join(l, r, birth)?;
+        admit(&mut self.arena, &mut self.heaps, &mut self.lists, id)?;
+        self.pending += 1;
+        Ok(id)
+    }
+
+    /// Makes a kept path historical. Memory changes nothing.
+    pub fn promote(&mut self, id: PathId) -> Result<(), Memory>
+        requires live { IsLive self.old.arena id }
+        requires pending { IsMarked self.old id → ⊥ }
+        ensures marked { OnOk result (self.new ≡ with_mark self.old id) }
+        ensures lawful { IsBook self.new }
+        ensures memory { OnErr result (self.new ≡ self.old) }
+    {
+        make_room(&mut self.marks, id.key())?;
+        let (left, right) = (self.arena.left_part(id), self.arena.right_part(id));
+        self.lists.add_star(id, left, right)?;
+        self.marks[id.key()] = true;
+        self.historical += 1;
+        self.pending -= 1;
+        Ok(())
+    }
+
+    /// Forgets a path that is no part of a kept one.
+    pub fn forget(&mut self, id: PathId)
+        requires edge { HasAnEdge self.old.arena id }
+        requires free { IsPartOfNone self.old.arena id }
+        ensures forgotten { IsForgotten self.old self.new id }
+        ensures lawful { IsBook self.new }
+    {
+        let (left, right) = (self.arena.left_part(id), self.arena.right_part(id));
+        self.heaps.remove(&self.arena, id);
+        self.lists.drop_id(id, left, right);
+        self.arena.remove(id);
+        if clear(&mut self.marks, id.key()) {
+            self.historical -= 1;
+        } else {
+            self.pending -= 1;
+        }
+    }
+
+    /// The kept path of the pair that none of them is below. From x to x it is the single vertex.
+    pub fn least(&self, x: u32, y: u32) -> Option<PathId>
+        requires from { x < self.now.arena.vertices }
+        requires to { y < self.now.arena.vertices }
+        ensures least { MatchOption result (KeepsNone self.now x y) (IsLeastKept self.now x y) }
+        ensures lawful { IsBook self.now }
+    {
+        if x == y {
+            Some(self.arena.vertex(x))
+        } else {
+            self.heaps.least(x, y)
+        }
+    }
+
+    /// Whether a kept path is historical.
+    pub fn is_historical(&self, id: PathId) -> bool
+        ensures value { result ≡ set.contains self.now.marked id }
+        ensures lawful { IsBook self.now }
+    {
+        is_marked(&self.marks, id.key())
+    }
+
+    /// The records of the kept paths.
+    pub fn arena(&self) -> &Arena
+        ensures lent { result.now ≡ self.now.arena }
+        ensures lawful { IsBook self.now }
+    {
+        &self.arena
+    }
+
+    /// The extensions of the kept paths by one edge, and the historical ones of them.
+    pub fn lists(&self) -> &Lists
+        ensures lent { result.now ≡ self.now.lists }
+        ensures lawful { IsBook self.now }
+    {
+        &self.lists
+    }
+
+    /// The number of kept paths with an edge.
+    pub fn count_paths(&self) -> u64
+        ensures count { PathsCount self.now result }
+        ensures most { result ≤ 2 ^ 48 }
+        ensures lawful { IsBook self.now }
+    {
+        self.historical + self.pending
+    }
+
+    /// The number of historical paths with an edge.
+    pub fn count_historical(&self) -> u64
+        ensures count { HistoricalCount self.now result }
+        ensures most { result ≤ 2 ^ 48 }
+        ensures lawful { IsBook self.now }
+    {
+        self.historical
+    }
+
+    /// The birth of the kept path with these vertices. It follows the kept paths from the first
+    /// vertex, in time of the extensions of the list's beginnings.
+    pub fn birth_of(&self, list: &[u32]) -> Option<u64>
+        requires some { 0 < length list.now }
+        requires inside { All (λ v. v < self.now.arena.vertices) list.now }
+        ensures birth { MatchOption result (IsKeptIn (kept_paths self.now) list.now → ⊥) (HasBirthIn (kept_paths self.now) list.now) }
+        ensures lawful { IsBook self.now }
+    {
+        let mut id = self.arena.vertex(list[0]);
+        for &v in &list[1..] {
+            id = self.extension(id, v)?;
+        }
+        Some(self.arena.birth(id))
+    }
+
+    /// The kept path that goes on to v behind a kept path.
+    fn extension(&self, id: PathId, v: u32) -> Option<PathId>
+        requires { IsLive self.now.arena id }
+        ensures found { IfSome result (IsExtensionTo self.now.arena id v) }
+        ensures none { IfNone result ((q : ℕ) → IsExtensionTo self.now.arena id v q → ⊥) }
+    {
+        for &longer in self.lists.right(id) {
+            if self.arena.last(longer) == v {
+                return Some(longer);
+            }
+        }
+        None
+    }
+}

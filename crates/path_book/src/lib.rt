@@ -1,0 +1,8 @@
+//! The kept paths of a graph: their records, the least of each pair, their extensions and marks.
+#![tactic(auto)]
+
+mod admit;
+mod book;
+mod marks;
+
+pub use book::Book;

@@ -1,0 +1,9 @@
+use Rattle.std.proofs.Common.{◌≡◌, ◌≤◌, length, vec_len, vec_capacity}
+use Rattle.weight_classes.specs.Choice.{IsChosen}
+use Rattle.weight_classes.proofs.Winning.{SeenIn}
+use Rattle.weight_classes.proofs.choice.choose.Given as goal
+
+abbrev pub invariant-choosing : goal.invariant-choosing
+invariant-choosing l =
+    IsChosen l.arena l.round (SeenIn l.keys l.key-index) l.fn.won.items l.won.items l.ids.items l.last
+    × (vec_len l.ids ≤ l.key-index) × (length l.keys ≤ vec_capacity l.ids)

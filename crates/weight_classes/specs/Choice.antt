@@ -1,0 +1,55 @@
+-- Which ids of a class win. No public clause cites this module.
+use Rattle.std.specs.Prelude.{◌≡◌, ◌≢◌, ℕ, ◌+◌, ◌*◌, ◌<◌, ◌≤◌, ◌⊎◌, ◌↔◌, ⊤, List, [], ◌∷◌, ◌++◌, length, slice_index, slice_index_or, slice_set, Contains}
+use Rattle.std.specs.declared.cmp.Ordering.TheVariants.{Less}
+use Rattle.path_arena.specs.Arena.{Arena, id_cmp}
+use Rattle.weight_classes.specs.declared.choice.Key.{Key}
+use Rattle.weight_classes.specs.Classes.{first_of, last_of}
+
+-- the place of the pair of a path, row by row
+abbrev pub place_of : Arena → ℕ → ℕ
+place_of a id = first_of a id * a.vertices + last_of a id
+
+abbrev pub key_of : Arena → ℕ → Key
+key_of a id = record { place = place_of a id; id = id }
+
+-- the ends of a path are vertices
+abbrev pub HasEnds : Arena → ℕ → Type 0
+HasEnds a id = (first_of a id < a.vertices) × (last_of a id < a.vertices)
+
+-- the keys of exactly these ids, in the order of their places
+pub record AreKeys (a : Arena) (ids : List ℕ) (keys : List Key) : Type 0 where
+  pub each : (k : Key) → Contains keys k → Contains ids k.id × (k ≡ key_of a k.id)
+  pub all : (q : ℕ) → Contains ids q → Contains keys (key_of a q)
+  pub many : length keys ≡ length ids
+  pub ends : (q : ℕ) → Contains ids q → HasEnds a q
+  pub sorted : (i j : ℕ) (d : Key) → i ≤ j → j < length keys → (slice_index_or keys i d).place ≤ (slice_index_or keys j d).place
+
+-- the last winner gives way to an id that is below it
+pub record GivesWay (a : Arena) (id : ℕ) (old new : List ℕ) : Type 0 where
+  pub front : List ℕ
+  pub w : ℕ
+  pub was : old ≡ front ++ w ∷ []
+  pub now : ((id_cmp a id w ≡ Less → ⊥) × (new ≡ old)) ⊎ ((id_cmp a id w ≡ Less) × (new ≡ front ++ id ∷ []))
+
+-- a key is taken into account: its pair is won now, or it was, by the last winner or before
+abbrev pub IsConsidered : Arena → ℕ → Key → ℕ → List ℕ → List ℕ → List ℕ → List ℕ → ℕ → Type 0
+IsConsidered a round key last winners rounds later marks result =
+    ((slice_index rounds key.place ≢ round) × (later ≡ winners ++ key.id ∷ []) × (marks ≡ slice_set rounds key.place round) × (result ≡ key.place))
+    ⊎ ((slice_index rounds key.place ≡ round) × (marks ≡ rounds) × (result ≡ last) × (((last ≢ key.place) × (later ≡ winners)) ⊎ ((last ≡ key.place) × GivesWay a key.id winners later)))
+
+-- each place stands before those that follow
+abbrev pub AreRising : Arena → List ℕ → Type 0
+AreRising a [] = ⊤
+AreRising a (id ∷ ids) = ((q : ℕ) → Contains ids q → place_of a id < place_of a q) × AreRising a ids
+
+-- the winners among the ids that Seen holds of; 'rounds' was before, and 'last' is the place of the last winner, if there is one
+pub record IsChosen (a : Arena) (round : ℕ) (Seen : ℕ → Type 0) (rounds marks winners : List ℕ) (last : ℕ) : Type 0 where
+  pub seen : (w : ℕ) → Contains winners w → Seen w
+  pub fresh : (w : ℕ) → Contains winners w → slice_index rounds (place_of a w) ≡ round → ⊥
+  pub least : (w q : ℕ) → Contains winners w → Seen q → place_of a q ≡ place_of a w → id_cmp a q w ≡ Less → ⊥
+  pub each : (q : ℕ) → Seen q → (slice_index rounds (place_of a q) ≡ round) ⊎ ((w : ℕ) × Contains winners w × (place_of a w ≡ place_of a q))
+  pub rising : AreRising a winners
+  pub marked : (k : ℕ) → k < length rounds → (slice_index marks k ≡ round) ↔ ((slice_index rounds k ≡ round) ⊎ ((w : ℕ) × Contains winners w × (place_of a w ≡ k)))
+  pub bounded : ((k : ℕ) → slice_index rounds k ≤ round) → (k : ℕ) → slice_index marks k ≤ round
+  pub many : length marks ≡ length rounds
+  pub last_is : ((winners ≡ []) × (last ≡ length rounds)) ⊎ ((front : List ℕ) × (w : ℕ) × (winners ≡ front ++ w ∷ []) × (place_of a w ≡ last))

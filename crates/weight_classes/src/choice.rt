@@ -1,0 +1,98 @@
+//! Which ids of a class win.
+
+ghost use Rattle.std.specs.Prelude.{◌≡◌, ℕ, ◌+◌, ◌*◌, ◌<◌, ◌≤◌, ◌^◌, length, vec_len, vec_capacity, Contains};
+ghost use Rattle.path_arena.specs.Arena.{IsLive};
+ghost use Rattle.weight_classes.specs.Choice.{AreKeys, IsChosen, HasEnds, IsConsidered, key_of};
+
+use path_arena::{Arena, PathId};
+use std::cmp::Ordering;
+
+/// An id with the place of its pair, row by row.
+#[derive(Clone, Copy)]
+pub(crate) struct Key {
+    pub(crate) place: usize,
+    pub(crate) id: PathId,
+}
+
+/// The keys of ids, by the places of their pairs. There is room for them.
+pub(crate) fn fill(keys: &mut Vec<Key>, arena: &Arena, n: u32, ids: &[PathId])
+    requires vertices { arena.now.vertices ≡ n }
+    requires live { (q : ℕ) → Contains ids.now q → IsLive arena.now q }
+    requires room { length ids.now ≤ vec_capacity keys.old }
+    ensures keys { AreKeys arena.now ids.now keys.new.items }
+    ensures capacity { vec_capacity keys.old ≤ vec_capacity keys.new }
+{
+    keys.clear();
+    'filling: for &id in ids {
+        // There is room, so it takes none.
+        let _ = keys.push(make_key(arena, n, id));
+    }
+    keys.sort_unstable_by_key(|key| key.place);
+}
+
+fn make_key(arena: &Arena, n: u32, id: PathId) -> Key
+    requires vertices { arena.now.vertices ≡ n }
+    requires live { IsLive arena.now id }
+    ensures is { result ≡ key_of arena.now id }
+    ensures ends { HasEnds arena.now id }
+{
+    Key {
+        place: arena.first(id) as usize * n as usize + arena.last(id) as usize,
+        id,
+    }
+}
+
+/// Puts the winners among the keys into the room that the ids had: of each pair that was not won
+/// the least, by the places of the pairs. Their pairs are won in this round.
+pub(crate) fn choose(
+    mut ids: Vec<PathId>,
+    keys: &[Key],
+    won: &mut Vec<u32>,
+    round: u32,
+    arena: &Arena,
+) -> Vec<PathId>
+    requires keys { AreKeys arena.now ids.items keys.now }
+    requires live { (q : ℕ) → Contains ids.items q → IsLive arena.now q }
+    requires pairs { vec_len won.old ≡ arena.now.vertices * arena.now.vertices }
+    ensures { (last : ℕ) × IsChosen arena.now round (Contains ids.items) won.old.items won.new.items result.items last }
+{
+    ids.clear();
+    let mut last = won.len();
+    'choosing: for &key in keys {
+        last = consider(&mut ids, won, round, last, arena, key);
+    }
+    ids
+}
+
+/// Takes a key into account behind those of lower places, and gives the place of the last winner.
+fn consider(
+    winners: &mut Vec<PathId>,
+    won: &mut Vec<u32>,
+    round: u32,
+    last: usize,
+    arena: &Arena,
+    key: Key,
+) -> usize
+    requires inside { key.place < vec_len won.old }
+    requires live { IsLive arena.now key.id }
+    requires all_live { (q : ℕ) → Contains winners.old.items q → IsLive arena.now q }
+    requires some { last ≡ key.place → 0 < vec_len winners.old }
+    requires room { vec_len winners.old < vec_capacity winners.old }
+    ensures considered { IsConsidered arena.now round key last winners.old.items won.old.items winners.new.items won.new.items result }
+    ensures capacity { vec_capacity winners.old ≤ vec_capacity winners.new }
+    ensures len { vec_len winners.new ≤ vec_len winners.old + 1 }
+{
+    if won[key.place] != round {
+        won[key.place] = round;
+        // There is room, so it takes none.
+        let _ = winners.push(key.id);
+        return key.place;
+    }
+    if last == key.place {
+        let end = winners.len() - 1;
+        if arena.compare(key.id, winners[end]) == Ordering::Less {
+            winners[end] = key.id;
+        }
+    }
+    last
+}

@@ -1,0 +1,50 @@
+//! Classes of edges.
+
+ghost use Rattle.std.specs.Prelude.{◌≡◌, ◌≢◌, ◌<◌, OnOk};
+ghost use Rattle.weight_classes.specs.Classes.{Fits};
+
+use crate::Classes;
+use apsp_model::Memory;
+use path_arena::{Arena, PathId};
+use std::test::Fail;
+
+/// Holds one more edge of a graph of three vertices.
+fn add(arena: &mut Arena, classes: &mut Classes, u: u32, v: u32, w: u32) -> Result<PathId, Memory>
+    requires fits { Fits classes.old arena.old }
+    requires three { arena.old.vertices ≡ 3 }
+    requires from { u < 3 }
+    requires to { v < 3 }
+    requires apart { u ≢ v }
+    ensures fits { OnOk result (Fits classes.new arena.new) }
+    ensures three { OnOk result (arena.new.vertices ≡ 3) }
+{
+    let id = arena.edge(u, v, w, 1)?;
+    classes.push(arena, id)?;
+    Ok(id)
+}
+
+/// Whether the next class has this weight and these winners.
+fn comes(arena: &Arena, classes: &mut Classes, weight: u64, winners: &[PathId]) -> bool
+    requires { Fits classes.old arena.now }
+    ensures { Fits classes.new arena.now }
+{
+    let class = classes.pop_class(arena);
+    class.is_some_and(|class| class.weight() == weight && class.winners() == winners)
+}
+
+#[test]
+fn three_classes(rt: HostRuntime) -> Result<(), Fail> {
+    let mut arena = Arena::new(rt.alloc(), 3)?;
+    let mut classes = Classes::new(rt.alloc(), 3)?;
+    let late = add(&mut arena, &mut classes, 1, 2, 7)?;
+    let early = add(&mut arena, &mut classes, 0, 1, 7)?;
+    let other = add(&mut arena, &mut classes, 2, 0, 8)?;
+    let _ = add(&mut arena, &mut classes, 0, 1, 9)?;
+    assert!(rt; comes(&arena, &mut classes, 7, &[early, late]));
+    assert!(rt; comes(&arena, &mut classes, 8, &[other]));
+    assert!(rt; comes(&arena, &mut classes, 9, &[]));
+    assert!(rt; classes.pop_class(&arena).is_none());
+    classes.restart();
+    assert!(rt; classes.pop_class(&arena).is_none());
+    Ok(())
+}

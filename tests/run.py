@@ -1,0 +1,123 @@
+"""Runs the cases of tests/cases against the program, and compares output and status byte for byte.
+
+    tests/run [NAME ..]        all cases, or these
+
+A case is a folder with
+    input       standard input; or `parts`, whose lines `COUNT TEXT` stand for TEXT so often, \\n in it for a newline
+    expected    standard output (missing: nothing)
+    words       the program's words, separated by spaces (missing: none)
+    status      the exit status (missing: 0)
+    fault       `read K`: reading fails behind the first K bytes; `write K`: writing fails behind them
+The scripts of examples are cases too: examples/NAME.txt with NAME.out, run with the words in NAME.words, if any.
+"""
+
+import os
+import pty
+import resource
+import signal
+import subprocess
+import sys
+import tempfile
+import tty
+
+HERE = os.path.dirname(os.path.abspath(__file__))
+TOP = os.path.dirname(HERE)
+PROGRAM = os.path.join(TOP, "crates", "apsp", "out", "apsp")
+SECONDS = 120
+
+
+def read(folder, name, default=b""):
+    path = os.path.join(folder, name)
+    if not os.path.exists(path):
+        return default
+    with open(path, "rb") as file:
+        return file.read()
+
+
+def input_of(folder):
+    parts = read(folder, "parts", None)
+    if parts is None:
+        return read(folder, "input")
+    pairs = (line.split(b" ", 1) for line in parts.splitlines())
+    return b"".join(text.replace(b"\\n", b"\n") * int(count) for count, text in pairs)
+
+
+def run_failing_read(command, data):
+    """Standard input is a terminal whose other side is closed behind the bytes, so that the next read fails."""
+    near, other = pty.openpty()
+    tty.setraw(other)
+    if data:
+        os.write(other, data)
+    with subprocess.Popen(command, stdin=near, stdout=subprocess.PIPE, stderr=subprocess.PIPE) as child:
+        os.close(other)
+        os.close(near)
+        output = child.communicate(timeout=SECONDS)[0]
+        return output, child.returncode
+
+
+def run_failing_write(command, data, most):
+    """Standard output is a file of a limited size."""
+    def limit():
+        signal.signal(signal.SIGXFSZ, signal.SIG_IGN)
+        resource.setrlimit(resource.RLIMIT_FSIZE, (most, most))
+    with tempfile.TemporaryFile() as sink:
+        status = subprocess.run(command, input=data, stdout=sink, stderr=subprocess.PIPE, timeout=SECONDS,
+                                preexec_fn=limit, restore_signals=False).returncode
+        sink.seek(0)
+        return sink.read(), status
+
+
+def run(words, data, fault):
+    command = [PROGRAM] + words
+    if not fault:
+        done = subprocess.run(command, input=data, stdout=subprocess.PIPE, stderr=subprocess.PIPE, timeout=SECONDS)
+        return done.stdout, done.returncode
+    kind, count = fault[0], int(fault[1])
+    if kind == "read":
+        return run_failing_read(command, data[:count])
+    return run_failing_write(command, data, count)
+
+
+def cases():
+    folder = os.path.join(HERE, "cases")
+    for name in sorted(os.listdir(folder)):
+        case = os.path.join(folder, name)
+        yield (name, read(case, "words").decode().split(), input_of(case), read(case, "expected"),
+               int(read(case, "status", b"0")), read(case, "fault").decode().split())
+    folder = os.path.join(TOP, "examples")
+    for file in sorted(os.listdir(folder)):
+        name, ending = os.path.splitext(file)
+        if ending == ".txt":
+            yield ("examples/" + name, read(folder, name + ".words").decode().split(), read(folder, file),
+                   read(folder, name + ".out"), int(read(folder, name + ".status", b"0")), [])
+
+
+def short(data):
+    return repr(data) if len(data) <= 600 else f"{data[:600]!r}... ({len(data)} bytes)"
+
+
+def main():
+    if not os.access(PROGRAM, os.X_OK):
+        print(f"tests/run: {PROGRAM} is not built: run 'rt ci' or './apsp' first")
+        print("0 passed, 1 failed")
+        return 1
+    wanted = sys.argv[1:]
+    passed = failed = 0
+    for name, words, data, expected, status, fault in cases():
+        if wanted and name not in wanted:
+            continue
+        try:
+            got, end = run(words, data, fault)
+        except subprocess.TimeoutExpired:
+            got, end = b"", f"no end after {SECONDS} s"
+        if (got, end) == (expected, status):
+            passed += 1
+            continue
+        failed += 1
+        print(f"{name}: words {words}\n  wanted {status} {short(expected)}\n  got    {end} {short(got)}")
+    print(f"{passed} passed, {failed} failed")
+    return 1 if failed or not passed else 0
+
+
+if __name__ == "__main__":
+    sys.exit(main())
