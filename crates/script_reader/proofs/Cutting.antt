@@ -1,13 +1,13 @@
 -- Lines that are cut piece by piece.
-use Rattle.std.specs.Prelude.{◌≡◌, ℕ, zero, suc, ◌+◌, ◌-◌, ◌<◌, ◌≤◌, min, Bool, true, false, not, cond, ◌||◌, nat_lt, if◌then◌else◌, List, [], ◌∷◌, ◌++◌, length, take, slice_index, Option, Some, None, refl}
-use Rattle.std.specs.List.{list_any, position_or_len, before_first}
-use Rattle.std.proofs.Common.{sym, ◌∙◌, ap, subst, inl, inr, arith, append_assoc, append-nil, length-append}
+use Rattle.std.specs.Prelude.{◌≡◌, ℕ, zero, suc, ◌+◌, ◌-◌, ◌<◌, ◌≤◌, min, Bool, true, false, not, cond, ◌||◌, nat_lt, if◌then◌else◌, List, [], ◌∷◌, ◌++◌, length, take, slice_index, refl}
+use Rattle.std.specs.List.{list_any, position_or_len}
+use Rattle.std.proofs.Common.{sym, ◌∙◌, ap, subst, arith, length-append}
 use Rattle.std.proofs.Math.Seq.{take-append-add}
 use Rattle.std.proofs.lemmas.Bool.Decides.{nat_tests}
 use Rattle.std.proofs.lemmas.List.{length-take, take_min, take_all}
 use Rattle.std.proofs.lemmas.List.Folds.{length-prefix_len}
 use Rattle.script_reader.specs.declared.TheConstants.{MOST_LINE_BYTES}
-use Rattle.script_reader.specs.Input.{is_newline, onto_line, whole_lines, open_rest, line_if_some, lines_of}
+use Rattle.script_reader.specs.Input.{is_newline, onto_line, whole_lines, open_rest}
 use Rattle.script_reader.specs.Cutter.{Cutting, StandsFor, line_part, has_newline, CutsLines}
 
 -- ---- the first newline

@@ -1,19 +1,18 @@
 -- The numbers of an accepted line are in range.
-use Rattle.std.specs.Prelude.{◌≡◌, ◌≢◌, ℕ, ◌+◌, ◌<◌, ◌≤◌, ◌⊎◌, Bool, true, false, not, ◌==◌, ◌&&◌, ◌||◌, nat_lt, nat_le, is_some, if◌then◌else◌, ⊤, List, [], ◌∷◌, length, All, Option, Some, None, Result, Ok, Err, IfOk, refl}
+use Rattle.std.specs.Prelude.{◌≡◌, ◌≢◌, ℕ, ◌+◌, ◌<◌, ◌≤◌, Bool, true, false, ◌==◌, ◌&&◌, nat_lt, nat_le, is_some, if◌then◌else◌, List, [], ◌∷◌, All, Option, Some, None, Result, Ok, Err, IfOk, refl}
 use Rattle.std.specs.List.{before_first, after_first}
 use Rattle.std.specs.FinMap as map
-use Rattle.std.proofs.Common.{sym, ◌∙◌, ap, subst, inl, inr, arith}
+use Rattle.std.proofs.Common.{sym, ◌∙◌, subst, inl, inr, arith}
 use Rattle.std.proofs.lemmas.Bool.Decides.{nat_tests}
 use Rattle.std.proofs.lemmas.List.Elements.{All-nil, All-cons}
-use Rattle.apsp_model.specs.declared.TheConstants.{MOST_VERTICES, LEAST_WEIGHT, MOST_WEIGHT}
+use Rattle.apsp_model.specs.declared.TheConstants.{MOST_VERTICES}
 use Rattle.apsp_model.specs.Graph.{IsEdgeOf}
 use Rattle.apsp_model.specs.Star.{Star as Star_model, IsStar}
 use Rattle.graph_store.specs.Making.{IsVertexCount, no_star}
 use Rattle.graph_store.specs.Edges.{IsWeight, with_edge}
 use Rattle.graph_store.proofs.StarRows.{is_star-with, is_star-no_star}
-use Rattle.script_reader.specs.declared.code.TheConstants.{NUMBER, VERTEX, SELF_EDGE, REPEAT, WEIGHT, SHAPE}
+use Rattle.script_reader.specs.declared.code.TheConstants.{VERTEX, SELF_EDGE, REPEAT, WEIGHT}
 use Rattle.script_reader.specs.declared.LineError.{LineError}
-use Rattle.script_reader.specs.declared.LineError.TheVariants.{Refused, Memory}
 use Rattle.script_reader.specs.declared.Context.{Context}
 use Rattle.script_reader.specs.declared.Command.{Command}
 use Rattle.script_reader.specs.declared.Command.TheVariants as command
@@ -21,9 +20,8 @@ use Rattle.script_reader.specs.declared.Group.{Group}
 use Rattle.script_reader.specs.declared.Group.TheVariants.{Out, In}
 use Rattle.script_reader.specs.declared.Line.{Line}
 use Rattle.script_reader.specs.declared.Line.TheVariants.{Nothing, Vertices, Star, Edge, Cut, Dist, Path, Row, Stats, Age}
-use Rattle.script_reader.specs.Words.{words_of, is_comment, command_of, is_out, is_in}
-use Rattle.script_reader.specs.Numbers.{number_of}
-use Rattle.script_reader.specs.Refused.{Refusal, refused, or_refused, ◌>>=◌}
+use Rattle.script_reader.specs.Words.{is_comment, command_of, is_out, is_in}
+use Rattle.script_reader.specs.Refused.{Refusal, refused, ◌>>=◌}
 use Rattle.script_reader.specs.Edges.{number_at, vertex_below, vertex_at, is_no_weight, weight_in_range, weight_at_word, is_colon, edge_of, star_with_edge, star_with_item, star_with_groups, first_misfit, vertices_at}
 use Rattle.script_reader.specs.Meaning.{misplaced, vertices_line, star_unless, star_line, edge_line, two_vertices, cut_line, row_line, stats_line, age_line, line_with, line_unless, command_line, line_of_words}
 use Rattle.script_reader.specs.Answer.{IsAnswer, Fits}

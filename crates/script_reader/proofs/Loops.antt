@@ -1,14 +1,10 @@
 -- Loops over the words that are left, a word at a time.
-use Rattle.std.specs.Prelude.{◌≡◌, ℕ, ◌+◌, Bool, true, false, cond, not, ◌||◌, ◌==◌, if◌then◌else◌, List, [], ◌∷◌, ◌++◌, count_by, Option, Some, None, Result, Ok, Err, refl}
+use Rattle.std.specs.Prelude.{◌≡◌, ℕ, ◌+◌, Bool, true, false, not, ◌||◌, ◌==◌, if◌then◌else◌, List, [], ◌∷◌, ◌++◌, count_by, Option, Some, None, refl}
 use Rattle.std.specs.List.{list_any}
-use Rattle.std.proofs.Common.{sym, ◌∙◌, ap, subst, arith, append_assoc, append-nil}
-use Rattle.std.proofs.lemmas.Bool.{cases_Bool}
-use Rattle.apsp_model.specs.Star.{Star}
-use Rattle.script_reader.specs.declared.Group.{Group}
+use Rattle.std.proofs.Common.{sym, ◌∙◌, ap}
 use Rattle.script_reader.specs.declared.Group.TheVariants.{Out, In}
 use Rattle.script_reader.specs.Words.{is_out, is_in, group_of}
-use Rattle.script_reader.specs.Refused.{Refusal, refused, ◌>>=◌}
-use Rattle.script_reader.specs.Edges.{is_colon, has_group, is_misfit, first_misfit, star_with_item, star_with_groups, vertex_at, vertices_at}
+use Rattle.script_reader.specs.Edges.{is_colon, has_group, is_misfit, first_misfit}
 use Rattle.script_reader.specs.Scan.{is_misfit_after}
 
 -- the first misfit, by which of the group words stood before

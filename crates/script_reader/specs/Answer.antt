@@ -11,7 +11,7 @@ use Rattle.script_reader.specs.declared.code.TheConstants.{SHAPE, VERTEX, SELF_E
 use Rattle.script_reader.specs.declared.LineError.{LineError}
 use Rattle.script_reader.specs.declared.LineError.TheVariants.{Refused, Memory}
 use Rattle.script_reader.specs.declared.Line.{Line}
-use Rattle.script_reader.specs.declared.Line.TheVariants.{Nothing, Vertices, Star, Edge, Cut, Dist, Path, Row, Stats, Age}
+use Rattle.script_reader.specs.declared.Line.TheVariants.{Vertices, Star, Edge, Cut, Dist, Path, Row, Age}
 use Rattle.script_reader.specs.declared.scan.Word.{Word}
 use Rattle.script_reader.specs.declared.scan.Words.{Words}
 use Rattle.script_reader.specs.Scan.{words_left}

@@ -1,11 +1,9 @@
 -- Vertices, weights and the items of a star, each word tested in the order of the codes.
-use Rattle.std.specs.Prelude.{ℕ, ◌+◌, Bool, true, false, not, ◌==◌, ◌&&◌, ◌||◌, nat_lt, nat_le, is_some, if◌then◌else◌, List, [], ◌∷◌, ◌++◌, length, count_by, Option, Some, None, Result, Ok, Err}
+use Rattle.std.specs.Prelude.{ℕ, ◌+◌, Bool, not, ◌==◌, ◌||◌, nat_lt, nat_le, is_some, if◌then◌else◌, List, [], ◌∷◌, ◌++◌, count_by, Option, Some, None, Result, Ok}
 use Rattle.std.specs.List.{list_any, before_first, after_first}
-use Rattle.std.specs.Str.{bytes_eq}
 use Rattle.std.specs.FinMap as map
 use Rattle.apsp_model.specs.declared.TheConstants.{LEAST_WEIGHT, MOST_WEIGHT}
 use Rattle.apsp_model.specs.Star.{Star}
-use Rattle.graph_store.specs.Making.{no_star}
 use Rattle.graph_store.specs.Edges.{with_edge}
 use Rattle.script_reader.specs.declared.code.TheConstants.{NUMBER, VERTEX, SELF_EDGE, REPEAT, WEIGHT}
 use Rattle.script_reader.specs.declared.Group.{Group}

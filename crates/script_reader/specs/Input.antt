@@ -1,6 +1,6 @@
 -- The lines of an input: it is cut at each newline, and what stands after the last one is a line too
 -- if it is not empty.
-use Rattle.std.specs.Prelude.{ℕ, Bool, true, false, ◌==◌, if◌then◌else◌, List, [], ◌∷◌, ◌++◌}
+use Rattle.std.specs.Prelude.{ℕ, Bool, ◌==◌, if◌then◌else◌, List, [], ◌∷◌, ◌++◌}
 use Rattle.std.specs.List.{list_any}
 
 abbrev pub is_newline : ℕ → Bool

@@ -1,5 +1,5 @@
 -- The meaning of a line: by cases on its words, the tests in their one order.
-use Rattle.std.specs.Prelude.{ℕ, ◌+◌, Bool, true, false, ◌==◌, ◌&&◌, nat_lt, nat_le, min, if◌then◌else◌, List, [], ◌∷◌, length, Option, Some, None, Result, Ok, Err}
+use Rattle.std.specs.Prelude.{ℕ, ◌+◌, Bool, true, false, ◌==◌, ◌&&◌, nat_lt, nat_le, min, if◌then◌else◌, List, [], ◌∷◌, length, Option, Some, None, Result, Ok}
 use Rattle.apsp_model.specs.declared.TheConstants.{MOST_VERTICES}
 use Rattle.graph_store.specs.Making.{no_star}
 use Rattle.script_reader.specs.declared.TheConstants.{MOST_LINE_BYTES}

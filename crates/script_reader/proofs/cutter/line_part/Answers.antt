@@ -1,4 +1,4 @@
-use Rattle.std.proofs.Common.{◌≡◌, ◌≤◌, ap, sym, ◌∙◌, take, length, arith}
+use Rattle.std.proofs.Common.{ap, sym, ◌∙◌, take, length, arith}
 use Rattle.std.proofs.lemmas.List.{take_all}
 use Rattle.script_reader.proofs.Cutting.{newline_at, no_newline}
 use Rattle.script_reader.proofs.cutter.line_part.Goals as goal

@@ -1,7 +1,6 @@
-use Rattle.std.proofs.Common.{sym, ◌∙◌, ap, ◌||◌}
-use Rattle.script_reader.specs.declared.scan.Words.{Words}
+use Rattle.std.proofs.Common.{sym, ◌∙◌}
 use Rattle.script_reader.specs.Scan.{words_left}
-use Rattle.script_reader.proofs.Loops.{misfit_from, misfit_none, misfit_more}
+use Rattle.script_reader.proofs.Loops.{misfit_none, misfit_more}
 use Rattle.script_reader.proofs.groups.first_misfit.Goals as goal
 
 pub loop-word-init : goal.loop-word-init
