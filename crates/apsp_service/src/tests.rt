@@ -96,17 +96,6 @@ fn long_lines_are_refused(rt: HostRuntime) -> Result<(), Fail> {
 }
 
 #[test]
-fn too_long_an_input_is_not_read(rt: HostRuntime) -> Result<(), Fail> {
-    for (length, status) in [(MOST_INPUT, 0), (MOST_INPUT + 1, 6)] {
-        let input = vec![in rt.alloc(); b'\n'; length]?;
-        let (ended, held) = run_over(&rt, rt.alloc(), &input, 4096, &[], &[])?;
-        assert_eq!(rt; ended, status, "{length} bytes");
-        assert!(rt; held.is_empty(), "{length} bytes");
-    }
-    Ok(())
-}
-
-#[test]
 fn a_failing_source_ends_the_run(rt: HostRuntime) -> Result<(), Fail> {
     let input = b"vertices 2\ndist 0 1\ndist 1 0\ndist 0 0\ndist 1 1\n";
     let (status, held) = run_over(&rt, rt.alloc(), input, 20, &[3], &[])?;
