@@ -23,8 +23,7 @@ use Rattle.cleanup_tasks.proofs.Parents.{Ends, ends, hops_left, hops_right, in_l
 once_front : (xs : List ℕ) (x : ℕ) → IsOnceEach (xs ++ x ∷ []) → IsOnceEach xs × (Contains xs x → ⊥)
 once_front [] x once = (tt, λ c. in_nil x c)
 once_front (y ∷ xs) x once =
-    let rest = once_front xs x once.1 in
-    (
+    let rest = once_front xs x once.1 in (
       ((λ c. once.0 (Contains-append_left xs (x ∷ []) y c)), rest.0),
       λ c. elim (in_cons x y xs c) [
         | inl same ↦ once.0 (Contains-append_right xs (x ∷ []) y (head_in y x [] (sym same)))
@@ -35,8 +34,7 @@ once_front (y ∷ xs) x once =
 rising_front : (b : Book) (xs : List ℕ) (x : ℕ) → IsRising b (xs ++ x ∷ []) → IsRising b xs × ((q : ℕ) → Contains xs q → hops_at b q ≤ hops_at b x)
 rising_front b [] x rising = (tt, λ q c. absurd (in_nil q c))
 rising_front b (y ∷ xs) x rising =
-    let rest = rising_front b xs x rising.1 in
-    (
+    let rest = rising_front b xs x rising.1 in (
       ((λ q c. rising.0 q (Contains-append_left xs (x ∷ []) q c)), rest.0),
       λ q c. elim (in_cons q y xs c) [
         | inl same ↦ subst (λ j. hops_at b j ≤ hops_at b x) same (rising.0 x (Contains-append_right xs (x ∷ []) x (head_in x x [] refl)))
@@ -77,22 +75,22 @@ module _ (b : Book) (was : IsBook b) (v id : ℕ) (rest fewer : List ℕ) (is : 
   pub last_is_free : IsPartOfNone b.arena id
   last_is_free = record {
     left = λ q e. (
-      let edge : HasAnEdge b.arena q = ap is_some e in
-      let p : Ends b was q = ends b was q edge in
-      let same : p.left ≡ id = (let two : Some p.left ≡ Some id = sym p.left_is ∙ e in cc) in
-      let long : 1 < length (list_of b.arena q) = p.long in
-      let stands : Contains (list_of b.arena q) v = in_left (list_of b.arena q) v (omega arith) (subst (λ xs. Contains xs v) (ap (list_of b.arena) (sym same) ∙ p.left_list) last_through.1) in
-      let short : hops_at b q ≤ hops_at b id = no_longer q (edge, stands) in
-      omega (arith, hops_left b was q p, ap (hops_at b) same)
-    );
+        let edge : HasAnEdge b.arena q = ap is_some e in
+        let p : Ends b was q = ends b was q edge in
+        let same : p.left ≡ id = (let two : Some p.left ≡ Some id = sym p.left_is ∙ e in cc) in
+        let long : 1 < length (list_of b.arena q) = p.long in
+        let stands : Contains (list_of b.arena q) v = in_left (list_of b.arena q) v (omega arith) (subst (λ xs. Contains xs v) (ap (list_of b.arena) (sym same) ∙ p.left_list) last_through.1) in
+        let short : hops_at b q ≤ hops_at b id = no_longer q (edge, stands) in
+        omega (arith, hops_left b was q p, ap (hops_at b) same)
+        );
     right = λ q e. (
-      let edge : HasAnEdge b.arena q = edge_of_right b was q id e in
-      let p : Ends b was q = ends b was q edge in
-      let same : p.right ≡ id = (let two : Some p.right ≡ Some id = sym p.right_is ∙ e in cc) in
-      let stands : Contains (list_of b.arena q) v = in_right (list_of b.arena q) v (subst (λ xs. Contains xs v) (ap (list_of b.arena) (sym same) ∙ p.right_list) last_through.1) in
-      let short : hops_at b q ≤ hops_at b id = no_longer q (edge, stands) in
-      omega (arith, hops_right b was q p, ap (hops_at b) same)
-    );
+        let edge : HasAnEdge b.arena q = edge_of_right b was q id e in
+        let p : Ends b was q = ends b was q edge in
+        let same : p.right ≡ id = (let two : Some p.right ≡ Some id = sym p.right_is ∙ e in cc) in
+        let stands : Contains (list_of b.arena q) v = in_right (list_of b.arena q) v (subst (λ xs. Contains xs v) (ap (list_of b.arena) (sym same) ∙ p.right_list) last_through.1) in
+        let short : hops_at b q ≤ hops_at b id = no_longer q (edge, stands) in
+        omega (arith, hops_right b was q p, ap (hops_at b) same)
+        );
   }
 
   module _ (new : Book) (f : IsForgotten b new id) where
@@ -104,15 +102,15 @@ module _ (b : Book) (was : IsBook b) (v id : ℕ) (rest fewer : List ℕ) (is : 
     fewer_victims now = record {
       exact = λ q. (
         λ c. (
-          let apart : q ≢ id = λ same. front.1 (subst (Contains fewer) same c) in
-          let through : IsThrough b v q = (w.exact q).0 (subst (λ xs. Contains xs q) (sym is) (Contains-append_left fewer (id ∷ []) q c)) in
-          (subst (λ (p : Path). is_some p.left ≡ true) (sym (path_left q apart)) through.0, subst (λ (p : Path). Contains p.list v) (sym (path_left q apart)) through.1)
-        ),
+            let apart : q ≢ id = λ same. front.1 (subst (Contains fewer) same c) in
+            let through : IsThrough b v q = (w.exact q).0 (subst (λ xs. Contains xs q) (sym is) (Contains-append_left fewer (id ∷ []) q c)) in
+            (subst (λ (p : Path). is_some p.left ≡ true) (sym (path_left q apart)) through.0, subst (λ (p : Path). Contains p.list v) (sym (path_left q apart)) through.1)
+            ),
         λ through. (
-          let apart : q ≢ id = ((live_is_left b new id f q).0 (live_from_edge new.arena q now.arena through.0)).1 in
-          let before : IsThrough b v q = (subst (λ (p : Path). is_some p.left ≡ true) (path_left q apart) through.0, subst (λ (p : Path). Contains p.list v) (path_left q apart) through.1) in
-          elim (cases q ((w.exact q).1 before)) [ inl stands ↦ stands | inr same ↦ absurd (apart same) ]
-        ),
+            let apart : q ≢ id = ((live_is_left b new id f q).0 (live_from_edge new.arena q now.arena through.0)).1 in
+            let before : IsThrough b v q = (subst (λ (p : Path). is_some p.left ≡ true) (path_left q apart) through.0, subst (λ (p : Path). Contains p.list v) (path_left q apart) through.1) in
+            elim (cases q ((w.exact q).1 before)) [ inl stands ↦ stands | inr same ↦ absurd (apart same) ]
+            ),
       );
       once = front.0;
       rising = rising_same b new fewer (λ q c. ap (λ (p : Path). hops_of p.list) (path_left q (λ same. front.1 (subst (Contains fewer) same c)))) (rising_front b fewer id (subst (IsRising b) is w.rising)).0;
@@ -140,10 +138,13 @@ cleaning_more old now later v id rest fewer c is f lawful = record {
   victims = fewer_victims now c.lawful v id rest fewer is c.victims later f lawful;
   vertices = ap (λ a. a.vertices) f.arena ∙ c.vertices;
   from = λ k kept. c.from k ((kept_forgotten now id c.lawful live later f k).0 kept).0;
-  stays = λ k kept h. (kept_forgotten now id c.lawful live later f k).1 (c.stays k kept h, λ same. elim h [
-    | inl avoids ↦ avoids (subst (λ xs. Contains xs v) (sym same) through.1)
-    | inr one ↦ (let long : 1 < length (list_of now.arena id) = long_of_edge now.arena id c.lawful.arena through.0 in omega (arith, ap length same))
-  ]);
+  stays = λ k kept h. (kept_forgotten now id c.lawful live later f k).1 (
+    c.stays k kept h,
+    λ same. elim h [
+      | inl avoids ↦ avoids (subst (λ xs. Contains xs v) (sym same) through.1)
+      | inr one ↦ (let long : 1 < length (list_of now.arena id) = long_of_edge now.arena id c.lawful.arena through.0 in omega (arith, ap length same))
+    ],
+  );
 }
   where
     through : IsThrough now v id

@@ -277,7 +277,7 @@ module _ (b : Book) (was : IsBook b) (v : ℕ) (inside : v < b.arena.vertices) w
   pub walked_most : (ids : List ℕ) (n : ℕ) → IsWalked b v ids n → length ids ≤ length (fin.entries b.arena.paths)
   walked_most ids n w =
       let short : length ids ≤ length (map (λ (e : ℕ × Path). e.0) (fin.entries b.arena.paths)) = once_is_short ids (map (λ (e : ℕ × Path). e.0) (fin.entries b.arena.paths)) w.once (λ q c. (
-        let p = live_path b.arena q (live_from_edge b.arena q was.arena (w.sound q c).0) in
-        to_map (λ (e : ℕ × Path). e.0) (fin.entries b.arena.paths) (q, p.0) ((in_entries b.arena.paths q p.0).1 p.1)
+      let p = live_path b.arena q (live_from_edge b.arena q was.arena (w.sound q c).0) in
+      to_map (λ (e : ℕ × Path). e.0) (fin.entries b.arena.paths) (q, p.0) ((in_entries b.arena.paths q p.0).1 p.1)
       )) in
       omega (arith, length-map (λ (e : ℕ × Path). e.0) (fin.entries b.arena.paths))
