@@ -1,5 +1,5 @@
 -- The paths through v are forgotten from the longest on.
-use Rattle.std.specs.Prelude.{◌≡◌, ◌≢◌, ℕ, true, ◌+◌, ◌<◌, ◌≤◌, ◌⊎◌, ◌↔◌, List, [], ◌∷◌, ◌++◌, length, Some, None, is_some, unwrap_or, refl, Contains}
+use Rattle.std.specs.Prelude.{◌≡◌, ◌≢◌, ℕ, true, ◌<◌, ◌≤◌, ◌⊎◌, List, [], ◌∷◌, ◌++◌, length, Some, is_some, unwrap_or, refl, Contains}
 use Rattle.std.proofs.Common.{sym, ◌∙◌, ap, subst, arith, inl, inr}
 use Rattle.std.proofs.lemmas.List.Elements.{Contains-append_left, Contains-append_right, Contains-append_cases}
 use Rattle.apsp_model.specs.Walk.{IsOnceEach, hops_of}
@@ -8,7 +8,7 @@ use Rattle.apsp_model.specs.Paths.{KeptPath}
 use Rattle.apsp_model.specs.Settled.{IsCleaned}
 use Rattle.apsp_model.proofs.Simples.{contained_or_not}
 use Rattle.fixup_math.proofs.Counting.{in_cons, in_nil, head_in, tail_in}
-use Rattle.path_arena.specs.Arena.{Path, Arena, IsLive, no_path, path_of, list_of, left_of, right_of, HasAnEdge, IsPartOfNone}
+use Rattle.path_arena.specs.Arena.{Path, IsLive, no_path, path_of, list_of, HasAnEdge, IsPartOfNone}
 use Rattle.path_arena.proofs.Keys.{get_gone_other}
 use Rattle.path_arena.proofs.Paths.{live_from_edge}
 use Rattle.path_book.specs.Book.{Book, IsBook, kept_paths, IsForgotten}

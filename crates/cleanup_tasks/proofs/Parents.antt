@@ -1,18 +1,18 @@
 -- Each path through v with an edge has one parent, and the walk comes from there.
-use Rattle.std.specs.Prelude.{◌≡◌, ◌≢◌, ℕ, zero, suc, ◌+◌, ◌-◌, ◌<◌, ◌≤◌, ◌⊎◌, ◌↔◌, Bool, true, false, ◌==◌, if◌then◌else◌, List, [], ◌∷◌, ◌++◌, length, Option, Some, None, is_some, unwrap_or, refl, Contains}
+use Rattle.std.specs.Prelude.{◌≡◌, ℕ, ◌+◌, ◌<◌, ◌≤◌, ◌⊎◌, ◌↔◌, Bool, true, false, if◌then◌else◌, List, [], ◌∷◌, length, Option, Some, None, is_some, unwrap_or, refl, Contains}
 use Rattle.std.proofs.Common.{sym, ◌∙◌, ap, subst, arith, inl, inr}
-use Rattle.std.proofs.lemmas.Bool.{cases_eq, cases_Bool, eq-eqb, eqb-true, ne_eqb, false≢true}
+use Rattle.std.proofs.lemmas.Bool.{cases_Bool, eq-eqb, eqb-true, false≢true}
 use Rattle.std.proofs.lemmas.List.{length-append}
 use Rattle.std.proofs.lemmas.List.Elements.{Contains-append_left, Contains-append_right, Contains-append_cases}
-use Rattle.apsp_model.specs.Walk.{IsOnceEach, IsSimple, hops_of, first, last}
+use Rattle.apsp_model.specs.Walk.{IsSimple, first}
 use Rattle.apsp_model.specs.Part.{left_part, right_part}
 use Rattle.apsp_model.proofs.Lists.{left_and_last, length_right, contains_cons, contains_nil, ends_differ}
 use Rattle.fixup_math.proofs.Counting.{in_nil, head_in, tail_in}
-use Rattle.path_arena.specs.Arena.{Path, Arena, no_path, path_at, vertex_of, IsLive, path_of, list_of, left_of, right_of, HasAnEdge, single, IsArena}
+use Rattle.path_arena.specs.Arena.{Path, no_path, path_at, vertex_of, IsLive, list_of, left_of, right_of, HasAnEdge, single}
 use Rattle.path_arena.proofs.Paths.{Parted, parted, live_path, live_from, live_from_edge, path_of_at}
 use Rattle.extension_lists.specs.Known.{sides_at}
 use Rattle.path_book.specs.Book.{Book, IsBook}
-use Rattle.path_book.proofs.Readers.{single_or_edge, edge_of_long, long_of_edge}
+use Rattle.path_book.proofs.Readers.{single_or_edge, long_of_edge}
 use Rattle.cleanup_tasks.specs.Victims.{IsThrough, hops_at}
 use Rattle.cleanup_tasks.specs.Walk.{begins_with, starts_at, longer_of}
 

@@ -1,13 +1,13 @@
 -- The walk from parents to children, one path of the queue behind another.
-use Rattle.std.specs.Prelude.{◌≡◌, ◌≢◌, ℕ, zero, suc, ◌+◌, ◌-◌, ◌<◌, ◌≤◌, ◌⊎◌, ◌↔◌, Bool, true, false, if◌then◌else◌, List, [], ◌∷◌, ◌++◌, length, take, drop, map, Option, Some, None, refl, Contains}
+use Rattle.std.specs.Prelude.{◌≡◌, ℕ, zero, suc, ◌+◌, ◌<◌, ◌≤◌, ◌⊎◌, Bool, true, false, if◌then◌else◌, List, [], ◌∷◌, ◌++◌, length, take, map, Some, refl, Contains}
 use Rattle.std.specs.FinMap as fin
 use Rattle.std.proofs.Common.{get_or, sym, ◌∙◌, ap, subst, arith, inl, inr}
-use Rattle.std.proofs.lemmas.Bool.{cases_eq, cases_lt, cases_Bool, false≢true}
-use Rattle.std.proofs.lemmas.List.{length-append, take_all, get_or_default, get_or_append_left}
+use Rattle.std.proofs.lemmas.Bool.{cases_Bool}
+use Rattle.std.proofs.lemmas.List.{take_all, get_or_default, get_or_append_left}
 use Rattle.std.proofs.lemmas.List.Elements.{Contains-append_left, Contains-append_right, Contains-append_cases}
 use Rattle.apsp_model.specs.Walk.{IsOnceEach}
 use Rattle.fixup_math.proofs.Counting.{in_cons, in_nil, head_in, tail_in}
-use Rattle.path_arena.specs.Arena.{Path, Arena, path_at, vertex_of, IsLive, left_of, right_of, HasAnEdge}
+use Rattle.path_arena.specs.Arena.{Path, vertex_of, left_of, right_of}
 use Rattle.path_arena.proofs.Paths.{live_path, live_from_edge}
 use Rattle.extension_lists.specs.Known.{sides_at}
 use Rattle.path_book.specs.Book.{Book, IsBook}

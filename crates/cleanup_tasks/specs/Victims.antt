@@ -1,5 +1,5 @@
 -- The kept paths through a vertex.
-use Rattle.std.specs.Prelude.{◌≡◌, ℕ, ◌≤◌, ◌↔◌, ⊤, List, [], ◌∷◌, Contains}
+use Rattle.std.specs.Prelude.{ℕ, ◌≤◌, ◌↔◌, ⊤, List, [], ◌∷◌, Contains}
 use Rattle.apsp_model.specs.Walk.{IsOnceEach, hops_of}
 use Rattle.path_arena.specs.Arena.{list_of, HasAnEdge}
 use Rattle.path_book.specs.Book.{Book}
