@@ -1,17 +1,12 @@
 -- Which vertices are cleaned: the time of each vertex's latest update, and the powers of 2 one by one.
-use Rattle.std.specs.Prelude.{◌≡◌, ◌≢◌, ℕ, zero, suc, ◌+◌, ◌-◌, ◌*◌, ◌^◌, ◌<◌, ◌≤◌, Bool, true, ◌==◌, if◌then◌else◌, List, [], ◌∷◌, ◌++◌, length, drop, refl, Option, Some, None, option_to_list, option_and_then, slice_get}
+use Rattle.std.specs.Prelude.{◌≡◌, ◌≢◌, ℕ, zero, suc, ◌+◌, ◌-◌, ◌*◌, ◌%◌, ◌^◌, ◌<◌, ◌≤◌, Bool, true, ◌==◌, if◌then◌else◌, List, [], ◌∷◌, ◌++◌, length, drop, refl, Option, Some, None, option_to_list, option_and_then, slice_get}
 use Rattle.std.specs.List.{list_any}
 use Rattle.std.proofs.Common.{sym, ◌∙◌, ap, subst, arith, inl, inr}
 use Rattle.std.proofs.lemmas.Bool.{cases_Bool, cases_eq, cases_lt, or_cases, or_left, or_right, eqb-true, eq-eqb, true≢false}
-use Rattle.std.proofs.lemmas.Nat.{pow-add}
+use Rattle.std.proofs.lemmas.Nat.{pow-add, pow_pos, one_shl}
 use Rattle.std.proofs.lemmas.Option.{slice_get_within, none-some, same_Some}
 use Rattle.apsp_model.specs.Command.{latest_at, cleaned, cleaned_from}
-
--- t is the time of the latest update at v, and 0 where there was none
-pub record IsLatest (vs : List ℕ) (v t : ℕ) : Type 0 where
-  pub made : t ≤ length vs
-  pub here : (s : ℕ) → t ≡ s + 1 → slice_get vs s ≡ Some v
-  pub none_later : (s : ℕ) → t ≤ s → slice_get vs s ≡ Some v → ⊥
+use Rattle.history_engine.specs.Times.{IsLatest}
 
 any_from : (vs : List ℕ) (k s v : ℕ) → k ≤ s → slice_get vs s ≡ Some v → list_any (λ later. later == v) (drop k vs) ≡ true
 any_from [] k s v l at = absurd (none-some v at)
@@ -159,3 +154,31 @@ left_end vs i l = all_none (length vs - i) i l
         let none : latest_at vs (length vs - 2 ^ i) ≡ None = none_before vs (length vs - 2 ^ i) (omega (arith, l)) in
         let e : 2 ^ (i + 1) ≡ 2 ^ i * 2 = pow-add 2 i 1 in
         (λ j. option_to_list (none j) ++ all_none more (i + 1) (omega (arith, l, e)) j)
+
+-- ---- what the update at v makes of an earlier update at w
+
+-- it is the latest one there still
+pub cleaned_here : (vs : List ℕ) (v w place n : ℕ) → slice_get vs place ≡ Some w → w ≢ v → IsLatest vs w (place + 1) → n ≡ place + 1 → latest_at (vs ++ v ∷ []) n ≡ Some w
+cleaned_here vs v w place n at apart l is =
+    subst (λ k. latest_at (vs ++ v ∷ []) k ≡ Some w) (sym is)
+    (latest_here (vs ++ v ∷ []) place w (get_old vs v place (slice_get_within vs place w at) ∙ at) (latest_still vs v w (place + 1) apart l))
+
+-- it is at the same vertex
+pub cleaned_same : (vs : List ℕ) (v place n : ℕ) → slice_get vs place ≡ Some v → n ≡ place + 1 → latest_at (vs ++ v ∷ []) n ≡ None
+cleaned_same vs v place n at is =
+    let within : place < length vs = slice_get_within vs place v at in
+    subst (λ k. latest_at (vs ++ v ∷ []) k ≡ None) (sym is)
+    (latest_elsewhere (vs ++ v ∷ []) place v (length vs + 1) (get_old vs v place within ∙ at) (latest_now vs v) (λ e. omega (arith, e, within)))
+
+-- it is not the latest one there
+pub cleaned_earlier : (vs : List ℕ) (v w place t n : ℕ) → slice_get vs place ≡ Some w → w ≢ v → IsLatest vs w t → t ≢ place + 1 → n ≡ place + 1 → latest_at (vs ++ v ∷ []) n ≡ None
+cleaned_earlier vs v w place t n at apart l other is =
+    subst (λ k. latest_at (vs ++ v ∷ []) k ≡ None) (sym is)
+    (latest_elsewhere (vs ++ v ∷ []) place w t (get_old vs v place (slice_get_within vs place w at) ∙ at) (latest_still vs v w t apart l) other)
+
+-- the place of the update of a power of 2 ago
+pub time_is : (len power place : ℕ) → power < 64 → (1 * 2 ^ power % 18446744073709551616 ≤ len) × (place ≡ len - 1 * 2 ^ power % 18446744073709551616) → (len + 1 - 2 ^ power ≡ place + 1) × (place < len)
+time_is len power place l h =
+    let e : 1 * 2 ^ power % 18446744073709551616 ≡ 2 ^ power = one_shl power 64 l in
+    let some : 0 < 2 ^ power = pow_pos power in
+    (omega (arith, h.0, h.1, e), omega (arith, h.0, h.1, e))

@@ -1,10 +1,9 @@
 -- A new path stands in the heap of its pair and in the lists of its parts.
-use Rattle.std.specs.Prelude.{◌≡◌, ◌≢◌, ℕ, ◌≤◌, ◌<◌, Bool, true, false, Some, Result, Ok, Err, OnOk, OnErr, length, refl}
+use Rattle.std.specs.Prelude.{◌≡◌, ℕ, ◌≤◌, ◌<◌, false, Some, Result, Ok, Err, OnOk, OnErr, length}
 use Rattle.std.specs.Result.{is_err}
 use Rattle.std.proofs.Common.{sym, ◌∙◌, ap, arith}
-use Rattle.apsp_model.specs.Walk.{first, last}
 use Rattle.apsp_model.proofs.Walks.{first_is, last_is}
-use Rattle.path_arena.specs.Arena.{Arena, IsLive, list_of, left_of, right_of, HasAnEdge, IsArena}
+use Rattle.path_arena.specs.Arena.{Arena, list_of, left_of, right_of, HasAnEdge, IsArena}
 use Rattle.path_arena.proofs.Paths.{Parted, parted}
 use Rattle.pair_heaps.specs.Heaps.{Heaps, IsInserted, Fits, HasEnds, spare_at}
 use Rattle.extension_lists.specs.Known.{Known}

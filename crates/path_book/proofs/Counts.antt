@@ -1,6 +1,6 @@
 -- A count with one list less.
-use Rattle.std.specs.Prelude.{◌≡◌, ℕ, ◌+◌, ◌-◌, ◌≤◌, ◌↔◌, List, [], ◌∷◌, length, refl, Contains}
-use Rattle.std.proofs.Common.{sym, ◌∙◌, ap, subst, arith, inl, inr}
+use Rattle.std.specs.Prelude.{◌≡◌, ℕ, ◌+◌, ◌-◌, ◌≤◌, ◌↔◌, List, [], ◌∷◌, length, Contains}
+use Rattle.std.proofs.Common.{sym, ◌∙◌, subst, arith, inl, inr}
 use Rattle.apsp_model.specs.Walk.{IsOnceEach}
 use Rattle.apsp_model.specs.Counts.{CountIs}
 use Rattle.fixup_math.proofs.Counting.{in_cons, in_nil, head_in, tail_in}

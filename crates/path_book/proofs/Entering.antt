@@ -1,11 +1,11 @@
 -- A new id is known to the lists, or known no more.
-use Rattle.std.specs.Prelude.{◌≡◌, ◌≢◌, ℕ, ◌⊎◌, ◌↔◌, Bool, true, false, IsTrue, ◌==◌, MatchBool, List, [], ◌∷◌, Option, Some, None, is_some, unwrap_or, refl, Contains}
+use Rattle.std.specs.Prelude.{◌≡◌, ◌≢◌, ℕ, ◌⊎◌, Bool, true, false, ◌==◌, List, Option, Some, None, is_some, unwrap_or, refl, Contains}
 use Rattle.std.specs.FinMap as map
 use Rattle.std.proofs.Common.{sym, ◌∙◌, ap, subst, inl, inr}
-use Rattle.std.proofs.lemmas.Bool.{cases_eq, false≢true}
+use Rattle.std.proofs.lemmas.Bool.{cases_eq}
 use Rattle.std.proofs.lemmas.Cmp.{nat_cmp_total}
 use Rattle.path_arena.proofs.Keys.{get_put, get_put_other}
-use Rattle.extension_lists.specs.Known.{Sides, Known, no_sides, IsKnown, sides_at, StandsOnlyAt, IsWithout, IsLeft, IsDropped}
+use Rattle.extension_lists.specs.Known.{Sides, Known, no_sides, IsKnown, sides_at, StandsOnlyAt, IsLeft, IsDropped}
 use Rattle.path_book.specs.Admitted.{StandsNowhere}
 use Rattle.path_book.proofs.Sides.{not_known, sides_other, known_put}
 

@@ -1,15 +1,15 @@
 -- A book with one kept path less.
-use Rattle.std.specs.Prelude.{◌≡◌, ◌≢◌, ℕ, ◌+◌, ◌-◌, ◌^◌, ◌<◌, ◌≤◌, ◌⊎◌, ◌↔◌, Bool, true, false, IsTrue, not, ◌==◌, if◌then◌else◌, List, [], ◌∷◌, Option, Some, None, IsSome, is_some, unwrap_or, refl, Contains}
+use Rattle.std.specs.Prelude.{◌≡◌, ◌≢◌, ℕ, ◌+◌, ◌-◌, ◌^◌, ◌<◌, ◌≤◌, ◌↔◌, Bool, true, false, IsTrue, ◌==◌, if◌then◌else◌, List, [], ◌∷◌, Option, Some, IsSome, is_some, unwrap_or, refl, Contains}
 use Rattle.std.specs.FinMap as map
 use Rattle.std.specs.FinSet as set
 use Rattle.std.proofs.Common.{sym, ◌∙◌, ap, subst, arith, inl, inr}
-use Rattle.std.proofs.lemmas.Bool.{cases_eq, cases_Bool, false≢true, true≢false, eq-eqb, eqb-true}
+use Rattle.std.proofs.lemmas.Bool.{cases_eq, false≢true, true≢false, eq-eqb}
 use Rattle.apsp_model.specs.Walk.{first, last}
 use Rattle.apsp_model.specs.Counts.{CountIs}
 use Rattle.fixup_math.proofs.Counting.{count_same, in_nil, head_in}
-use Rattle.path_arena.specs.Arena.{Path, Arena, path_at, vertex_of, IsLive, no_path, path_of, list_of, left_of, right_of, weight_of, HasAnEdge, single, without_path, IsPartOfNone}
+use Rattle.path_arena.specs.Arena.{Path, Arena, vertex_of, IsLive, no_path, path_of, list_of, left_of, right_of, HasAnEdge, single, without_path, IsPartOfNone}
 use Rattle.path_arena.proofs.Keys.{get_gone, get_gone_other}
-use Rattle.path_arena.proofs.Paths.{IsArena-without, live_path, live_from, live_from_edge, path_of_at}
+use Rattle.path_arena.proofs.Paths.{IsArena-without, live_from_edge, path_of_at}
 use Rattle.pair_heaps.specs.Heaps.{Heaps, held_at, Fits, HasEnds, IsHeld, IsRemoved, AgreeOnHeld}
 use Rattle.pair_heaps.proofs.Fits.{fits_agree}
 use Rattle.extension_lists.specs.Known.{Sides, Known, no_sides, IsKnown, sides_at, IsDropped, IsLeft, StandsOnlyAt}

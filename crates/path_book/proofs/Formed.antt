@@ -1,5 +1,5 @@
 -- A book with one more kept path.
-use Rattle.std.specs.Prelude.{◌≡◌, ◌≢◌, ℕ, ◌+◌, ◌^◌, ◌<◌, ◌≤◌, ◌⊎◌, ◌↔◌, Bool, true, false, IsTrue, ◌==◌, List, [], ◌∷◌, ◌++◌, length, Option, Some, None, IsSome, is_some, unwrap_or, refl, Contains}
+use Rattle.std.specs.Prelude.{◌≡◌, ◌≢◌, ℕ, ◌+◌, ◌^◌, ◌<◌, ◌⊎◌, ◌↔◌, Bool, true, false, ◌==◌, List, [], ◌∷◌, ◌++◌, Some, None, IsSome, is_some, unwrap_or, refl, Contains}
 use Rattle.std.specs.FinMap as map
 use Rattle.std.specs.FinSet as set
 use Rattle.std.proofs.Common.{sym, ◌∙◌, ap, subst, arith, inl, inr}
@@ -7,10 +7,10 @@ use Rattle.std.proofs.lemmas.Bool.{cases_eq, false≢true}
 use Rattle.apsp_model.specs.Walk.{first, last}
 use Rattle.apsp_model.specs.Counts.{CountIs}
 use Rattle.fixup_math.proofs.Counting.{count_more, count_same}
-use Rattle.path_arena.specs.Arena.{Path, Arena, path_at, vertex_of, IsLive, no_path, path_of, list_of, left_of, right_of, HasAnEdge, with_path, without_path, IsArena}
+use Rattle.path_arena.specs.Arena.{Path, Arena, path_at, IsLive, no_path, path_of, list_of, left_of, right_of, HasAnEdge, with_path, IsArena}
 use Rattle.path_arena.proofs.Keys.{get_put, get_put_other}
-use Rattle.path_arena.proofs.Paths.{live_path, live_from, live_apart, path_of_at, live_from_edge}
-use Rattle.pair_heaps.specs.Heaps.{Heaps, held_at, Fits, HasEnds, IsInserted, ChangesOnly}
+use Rattle.path_arena.proofs.Paths.{live_from, live_apart, path_of_at, live_from_edge}
+use Rattle.pair_heaps.specs.Heaps.{Heaps, held_at, HasEnds, IsInserted}
 use Rattle.extension_lists.specs.Known.{Sides, Known, no_sides, IsKnown, sides_at}
 use Rattle.path_book.specs.Book.{Book, IsMarked, IsNewList, left_id, right_id, entered, with_kept, HasExtensions, IsBook}
 use Rattle.path_book.specs.Layout.{HoldsPaths, IsCounted, IsStored}

@@ -1,5 +1,5 @@
 -- How a new path is put into a book: what its parts ask for, and what they are afterwards.
-use Rattle.std.specs.Prelude.{◌≡◌, ◌≢◌, ℕ, ◌+◌, ◌^◌, ◌<◌, ◌≤◌, ◌⊎◌, ◌↔◌, List, [], ◌∷◌, ◌++◌, length, Option, Some, None, Result, Ok, Err, OnErr, is_some, unwrap_or, refl, Contains}
+use Rattle.std.specs.Prelude.{◌≡◌, ◌≢◌, ℕ, ◌+◌, ◌^◌, ◌<◌, ◌≤◌, [], ◌∷◌, length, Some, None, Result, Ok, Err, OnErr, unwrap_or, refl, Contains}
 use Rattle.std.specs.FinMap as map
 use Rattle.std.proofs.Common.{sym, ◌∙◌, ap, subst, arith, inl, inr}
 use Rattle.std.proofs.lemmas.Cmp.{nat_cmp_total}
@@ -7,17 +7,16 @@ use Rattle.std.proofs.lemmas.Bool.{cases_eq}
 use Rattle.apsp_model.specs.Walk.{first, last}
 use Rattle.apsp_model.proofs.Walks.{first_is, last_is, length_from_last}
 use Rattle.apsp_model.proofs.Lists.{first-append, last-push}
-use Rattle.path_arena.specs.Arena.{Path, Arena, no_path, path_at, vertex_of, IsLive, path_of, list_of, left_of, right_of, HasAnEdge, single, edge_path, joined_path, with_path, without_path, IsPartOfNone, CanJoin, IsArena}
-use Rattle.path_arena.proofs.Keys.{get_put, get_put_other, get_gone, get_gone_other}
-use Rattle.path_arena.proofs.Paths.{live_from, live_apart, live_from_edge, added_is_part_of_none, Meeting, meeting}
+use Rattle.path_arena.specs.Arena.{Path, Arena, no_path, path_at, path_of, list_of, left_of, right_of, HasAnEdge, edge_path, joined_path, with_path, without_path, IsPartOfNone, CanJoin, IsArena}
+use Rattle.path_arena.proofs.Keys.{get_put_other, get_gone, get_gone_other}
+use Rattle.path_arena.proofs.Paths.{live_apart, live_from_edge, added_is_part_of_none, Meeting, meeting}
 use Rattle.pair_heaps.specs.Heaps.{Heaps, held_at, spare_at, Fits, HasEnds, IsHeld, IsReserved}
 use Rattle.pair_heaps.proofs.Fits.{IsFreshIn, fresh_in, ends_in_rows}
-use Rattle.extension_lists.specs.Known.{Sides, Known, no_sides, IsKnown, sides_at}
+use Rattle.extension_lists.specs.Known.{Known, IsKnown}
 use Rattle.path_book.specs.Book.{Book, IsMarked, IsNewList, left_id, right_id, entered, with_kept, IsBook}
 use Rattle.path_book.specs.Layout.{HoldsPaths, IsStored}
 use Rattle.path_book.specs.Admitted.{StandsNowhere, CanEnter, HasRoom, IsAdmitted}
-use Rattle.path_book.proofs.Formed.{IsNew, same_pair, ends_alike, edge_now, path_of_new, stored_formed, book_formed}
-use Rattle.path_book.proofs.Readers.{single_or_edge}
+use Rattle.path_book.proofs.Formed.{IsNew, same_pair, ends_alike, edge_now, path_of_new, stored_formed}
 
 -- a path that was added and taken out again leaves the arena as it was
 pub added_and_taken : (a : Arena) (id : ℕ) (p : Path) → path_at a id ≡ None → without_path (with_path a id p) id ≡ a

@@ -1,16 +1,12 @@
 -- The kept paths of a book as a list, and as live ids.
-use Rattle.std.specs.Prelude.{◌≡◌, ◌≢◌, ℕ, ◌<◌, ◌⊎◌, ◌↔◌, Bool, true, false, IsTrue, ◌||◌, ◌&&◌, not, T, List, [], ◌∷◌, map, Option, Some, None, IsSome, unwrap_or, refl, Contains}
-use Rattle.std.specs.Ordering.{nat_cmp, eq_by_cmp}
+use Rattle.std.specs.Prelude.{◌≡◌, ℕ, ◌<◌, ◌↔◌, T, List, [], ◌∷◌, map, Some, refl, Contains}
+use Rattle.std.specs.Ordering.{nat_cmp}
 use Rattle.std.specs.FinMap as fin
-use Rattle.std.specs.FinSet as set
-use Rattle.std.proofs.Common.{sym, ◌∙◌, ap, subst, arith, inl, inr}
-use Rattle.std.proofs.lemmas.Cmp.{nat_cmp_total}
-use Rattle.std.proofs.lemmas.Bool.{cases_eq, false≢true}
+use Rattle.std.proofs.Common.{sym, ◌∙◌, ap, subst, arith}
 use Rattle.apsp_model.specs.Paths.{KeptPath, IsKeptIn, IsHistoricalIn, HasBirthIn, IsOncePerList}
-use Rattle.path_arena.specs.Arena.{Path, Arena, path_at, IsLive, no_path, path_of, list_of, with_path, without_path}
-use Rattle.path_arena.proofs.Keys.{tied_key, apart_key, get_put, get_put_other, get_gone, get_gone_other}
-use Rattle.path_arena.proofs.Paths.{live_path, live_from, live_apart, path_of_at}
-use Rattle.path_book.specs.Book.{Book, IsMarked, kept_path, kept_paths, with_kept, with_mark, IsBook, IsNewList}
+use Rattle.path_arena.specs.Arena.{Path, path_at, IsLive, path_of, list_of}
+use Rattle.path_arena.proofs.Paths.{live_path, live_from, path_of_at}
+use Rattle.path_book.specs.Book.{Book, IsMarked, kept_path, kept_paths, IsBook}
 use Rattle.fixup_math.proofs.Counting.{head_in, tail_in}
 use Rattle.path_book.proofs.Tables.{in_entries, in_map, to_map, rising_head, rising_tail}
 

@@ -13,3 +13,4 @@ pub mod Readers
 pub mod Forms
 pub mod Lookups
 pub mod Opening
+pub mod Changes

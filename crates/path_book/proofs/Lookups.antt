@@ -1,5 +1,5 @@
 -- A kept path is found by its vertices: its beginnings are kept, and each is an extension of the one before.
-use Rattle.std.specs.Prelude.{◌≡◌, ◌≢◌, ℕ, zero, suc, ◌+◌, ◌<◌, ◌≤◌, List, [], ◌∷◌, ◌++◌, length, take, drop, ◌-◌, Some, is_some, refl, Contains}
+use Rattle.std.specs.Prelude.{◌≡◌, ℕ, zero, suc, ◌+◌, ◌<◌, ◌≤◌, List, [], ◌∷◌, ◌++◌, length, take, drop, ◌-◌, Some, is_some, refl, Contains}
 use Rattle.std.proofs.Common.{get_or, inl, inr, sym, ◌∙◌, ap, subst, arith}
 use Rattle.std.proofs.lemmas.List.{append_assoc, append-nil, length-append, get_or_default, take_all, drop_all, drop_more}
 use Rattle.apsp_model.specs.Walk.{last}
@@ -7,7 +7,7 @@ use Rattle.apsp_model.specs.Part.{left_part}
 use Rattle.apsp_model.specs.Paths.{IsKeptIn, HasBirthIn}
 use Rattle.apsp_model.proofs.Lists.{left_part-push, left_and_last, last-push}
 use Rattle.apsp_model.proofs.Walks.{length_from_last}
-use Rattle.path_arena.specs.Arena.{Path, Arena, IsLive, path_of, list_of, left_of, HasAnEdge, IsArena}
+use Rattle.path_arena.specs.Arena.{IsLive, path_of, list_of, left_of, HasAnEdge}
 use Rattle.path_arena.proofs.Paths.{Parted, parted, live_from_edge}
 use Rattle.extension_lists.specs.Known.{sides_at}
 use Rattle.path_book.specs.Book.{Book, kept_paths, IsBook}

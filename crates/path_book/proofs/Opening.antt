@@ -1,23 +1,21 @@
 -- The book of the single vertices.
-use Rattle.std.specs.Prelude.{◌≡◌, ◌≢◌, ℕ, ◌+◌, ◌<◌, ◌≤◌, ◌⊎◌, ◌↔◌, Bool, true, false, IsTrue, List, [], ◌∷◌, ◌++◌, length, slice_set, Option, Some, None, IsNone, is_some, unwrap_or, refl, Contains}
+use Rattle.std.specs.Prelude.{◌≡◌, ℕ, ◌+◌, ◌<◌, Bool, true, IsTrue, List, [], length, slice_set, Option, Some, None, IsNone, is_some, unwrap_or, refl, Contains}
 use Rattle.std.specs.Ordering.{nat_cmp}
 use Rattle.std.specs.FinMap as map
 use Rattle.std.specs.FinSet as set
 use Rattle.std.proofs.Common.{sym, ◌∙◌, ap, subst, arith, inl, inr}
 use Rattle.std.proofs.lemmas.Bool.{cases_eq, cases_lt, false≢true}
 use Rattle.apsp_model.specs.Walk.{first}
-use Rattle.apsp_model.specs.Counts.{CountIs}
 use Rattle.path_arena.proofs.Keys.{get_put}
 use Rattle.fixup_math.proofs.Counting.{count_none, in_nil}
 use Rattle.path_arena.specs.Arena.{Path, Arena, path_at, vertex_of, IsLive, path_of, list_of, left_of, right_of, HasAnEdge, single, no_path, IsArena, IsOpening}
-use Rattle.path_arena.proofs.Paths.{live_from, live_path, live_from_edge, path_of_at}
-use Rattle.pair_heaps.specs.Heaps.{Heaps, held_at, Fits, HasEnds}
+use Rattle.path_arena.proofs.Paths.{live_from, live_from_edge, path_of_at}
+use Rattle.pair_heaps.specs.Heaps.{Heaps, held_at, Fits}
 use Rattle.extension_lists.specs.Known.{Sides, Known, no_sides, IsKnown, sides_at}
-use Rattle.path_book.specs.Book.{Book, IsMarked, HasExtensions, IsBook}
-use Rattle.path_book.specs.Layout.{marked_in, mark_at, HoldsPaths, IsCounted, IsOpenedTo, IsStored}
+use Rattle.path_book.specs.Layout.{marked_in, IsOpenedTo, IsStored}
 use Rattle.path_book.proofs.Places.{marked_set, contains-marked_in}
 use Rattle.path_book.proofs.Sets.{marked_put, marked_put_other}
-use Rattle.path_book.proofs.Sides.{not_known, sides_changed, sides_other, known_put}
+use Rattle.path_book.proofs.Sides.{sides_other, known_put}
 
 pub opened_none : (a : Arena) (lists : Known) (marks : List Bool) → lists ≡ map.empty → marks ≡ [] → IsOpenedTo a lists marks 0
 opened_none a lists marks e f = record {

@@ -5,10 +5,10 @@ use Rattle.std.proofs.Common.{sym, ◌∙◌, ap, subst, arith, inl, inr}
 use Rattle.std.proofs.lemmas.Bool.{cases_eq, false≢true, eq-eqb, eqb-true}
 use Rattle.apsp_model.specs.Counts.{CountIs}
 use Rattle.fixup_math.proofs.Counting.{count_more}
-use Rattle.path_arena.specs.Arena.{Path, Arena, IsLive, no_path, path_of, list_of, left_of, right_of, HasAnEdge}
+use Rattle.path_arena.specs.Arena.{Path, IsLive, path_of, list_of, left_of, right_of, HasAnEdge}
 use Rattle.path_arena.proofs.Paths.{Parted, parted, live_from_edge}
 use Rattle.pair_heaps.specs.Heaps.{Heaps}
-use Rattle.extension_lists.specs.Known.{Sides, Known, IsKnown, sides_at, starred}
+use Rattle.extension_lists.specs.Known.{Known, IsKnown, sides_at, starred}
 use Rattle.path_book.specs.Book.{Book, IsMarked, left_id, right_id, with_mark, HasExtensions, IsBook}
 use Rattle.path_book.specs.Layout.{marked_in, IsCounted, IsStored}
 use Rattle.path_book.proofs.Sets.{marked_put, marked_put_other}

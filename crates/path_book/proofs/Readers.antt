@@ -1,20 +1,20 @@
 -- What the readers of a book give.
-use Rattle.std.specs.Prelude.{◌≡◌, ◌≢◌, ℕ, ◌+◌, ◌<◌, ◌≤◌, ◌⊎◌, ◌↔◌, Bool, true, false, List, [], ◌∷◌, ◌++◌, length, Option, Some, None, IsSome, IsNone, is_some, IfSome, MatchOption, refl, Contains}
+use Rattle.std.specs.Prelude.{◌≡◌, ◌≢◌, ℕ, ◌+◌, ◌<◌, ◌⊎◌, ◌↔◌, Bool, true, false, List, [], ◌∷◌, length, Option, Some, None, IsNone, is_some, IfSome, MatchOption, refl, Contains}
 use Rattle.std.specs.FinSet as set
 use Rattle.std.specs.declared.cmp.Ordering.TheVariants.{Less}
 use Rattle.std.proofs.Common.{sym, ◌∙◌, ap, subst, arith, inl, inr}
-use Rattle.std.proofs.lemmas.Bool.{true≢false, false≢true}
+use Rattle.std.proofs.lemmas.Bool.{true≢false}
 use Rattle.apsp_model.specs.Walk.{IsSimple, first, last}
 use Rattle.apsp_model.specs.Kept.{IsWithEdge}
 use Rattle.apsp_model.specs.Counts.{CountIs}
 use Rattle.apsp_model.specs.Paths.{IsKeptIn, IsHistoricalIn}
 use Rattle.fixup_math.proofs.Counting.{count_same, count_either, in_nil, head_in, tail_in}
-use Rattle.path_arena.specs.Arena.{Path, Arena, path_at, vertex_of, IsLive, path_of, list_of, HasAnEdge, single, id_cmp, HasParts, IsSingle, IsPath, IsArena}
+use Rattle.path_arena.specs.Arena.{Path, Arena, path_at, vertex_of, IsLive, path_of, list_of, HasAnEdge, single, id_cmp, IsArena}
 use Rattle.path_arena.proofs.Paths.{Parted, parted, live_path, live_from, live_from_edge, path_of_at}
 use Rattle.pair_heaps.specs.Heaps.{Heaps, held_at, HasEnds, IsLeastHeld}
 use Rattle.pair_heaps.proofs.Orders.{not_below_itself}
 use Rattle.path_book.specs.Book.{Book, IsMarked, kept_paths, IsBook, IsLeastKept, KeepsNone, PathsCount, HistoricalCount}
-use Rattle.path_book.specs.Layout.{HoldsPaths, IsCounted, IsStored}
+use Rattle.path_book.specs.Layout.{IsCounted, IsStored}
 use Rattle.path_book.proofs.Kept.{kept_live, historical_marked}
 
 -- a live path is a single vertex or has an edge

@@ -1,14 +1,13 @@
 -- The extension lists when a path is added, marked or taken out, against the parts that the arena tells.
-use Rattle.std.specs.Prelude.{◌≡◌, ◌≢◌, ℕ, ◌⊎◌, ◌↔◌, Bool, true, false, IsTrue, ◌==◌, if◌then◌else◌, MatchBool, List, [], ◌∷◌, ◌++◌, Option, Some, None, IsSome, is_some, unwrap_or, refl, Contains}
-use Rattle.std.specs.Ordering.{nat_cmp}
+use Rattle.std.specs.Prelude.{◌≡◌, ◌≢◌, ℕ, ◌⊎◌, ◌↔◌, Bool, true, false, IsTrue, ◌==◌, if◌then◌else◌, List, [], ◌∷◌, ◌++◌, Option, Some, None, is_some, unwrap_or, refl, Contains}
 use Rattle.std.specs.FinMap as map
 use Rattle.std.proofs.Common.{sym, ◌∙◌, ap, subst, inl, inr}
-use Rattle.std.proofs.lemmas.Bool.{cases_eq, cases_Bool, false≢true, ne_eqb, eq-eqb, eqb-true}
+use Rattle.std.proofs.lemmas.Bool.{cases_eq, false≢true, ne_eqb, eq-eqb, eqb-true}
 use Rattle.std.proofs.lemmas.List.Elements.{Contains-append_left, Contains-append_right, Contains-append_cases}
 use Rattle.fixup_math.proofs.Counting.{in_cons, in_nil, head_in}
-use Rattle.path_arena.specs.Arena.{Path, Arena, path_at, IsLive, no_path, path_of, with_path, without_path}
+use Rattle.path_arena.specs.Arena.{Path, Arena, path_at, no_path, path_of, with_path, without_path}
 use Rattle.path_arena.proofs.Keys.{get_put, get_put_other, get_gone, get_gone_other}
-use Rattle.extension_lists.specs.Known.{Sides, Known, no_sides, IsKnown, sides_at, change, added, starred, IsWithout, IsLeft, IsDropped}
+use Rattle.extension_lists.specs.Known.{Sides, Known, no_sides, IsKnown, sides_at, change, IsLeft}
 
 -- ---- one list
 

@@ -1,5 +1,5 @@
 -- What a new path changes in the parts of a book. No public clause cites this module.
-use Rattle.std.specs.Prelude.{◌≡◌, ℕ, ◌↔◌, ◌≤◌, Some, Contains}
+use Rattle.std.specs.Prelude.{◌≡◌, ℕ, ◌≤◌, Some, Contains}
 use Rattle.path_arena.specs.Arena.{Arena, left_of, right_of}
 use Rattle.pair_heaps.specs.Heaps.{Heaps, IsInserted, Fits, HasEnds, spare_at}
 use Rattle.extension_lists.specs.Known.{Known, IsKnown, sides_at}

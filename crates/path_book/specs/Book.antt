@@ -1,15 +1,14 @@
 -- What contracts see of a book: the kept paths, which of them are historical, and their extensions.
-use Rattle.std.specs.Prelude.{◌≡◌, ℕ, ◌+◌, ◌<◌, ◌≤◌, ◌^◌, ◌↔◌, IsTrue, List, map, length, Some, unwrap_or, refl, Contains}
+use Rattle.std.specs.Prelude.{◌≡◌, ℕ, ◌<◌, ◌↔◌, IsTrue, List, map, Some, unwrap_or, refl, Contains}
 use Rattle.std.specs.Ordering.{nat_cmp}
 use Rattle.std.specs.Coded.{Coded, code_by, coded×, coded_ℕ}
 use Rattle.std.specs.FinMap as paths
 use Rattle.std.specs.FinSet as set
 use Rattle.std.specs.declared.cmp.Ordering.TheVariants.{Less}
-use Rattle.apsp_model.specs.Walk.{first, last}
 use Rattle.apsp_model.specs.Kept.{IsWithEdge}
 use Rattle.apsp_model.specs.Counts.{CountIs}
 use Rattle.apsp_model.specs.Paths.{KeptPath, IsKeptIn, IsHistoricalIn}
-use Rattle.path_arena.specs.Arena.{Path, Arena, arena_code, path_of, vertex_of, IsLive, list_of, left_of, right_of, HasAnEdge, with_path, without_path, id_cmp, IsArena}
+use Rattle.path_arena.specs.Arena.{Path, Arena, arena_code, path_of, vertex_of, IsLive, list_of, left_of, right_of, with_path, without_path, id_cmp, IsArena}
 use Rattle.pair_heaps.specs.Heaps.{HasEnds}
 use Rattle.extension_lists.specs.Known.{Known, known_code, IsKnown, sides_at, no_sides, added, starred, IsDropped}
 

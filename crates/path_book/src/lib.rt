@@ -4,5 +4,7 @@
 mod admit;
 mod book;
 mod marks;
+#[cfg(test)]
+mod tests;
 
 pub use book::Book;

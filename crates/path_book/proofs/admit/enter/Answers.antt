@@ -1,6 +1,5 @@
 use Rattle.std.proofs.Common.{◌≡◌, sym, ◌∙◌, subst}
-use Rattle.std.specs.FinMap as map
-use Rattle.extension_lists.specs.Known.{Known, no_sides, IsKnown, sides_at, IsDropped, StandsOnlyAt}
+use Rattle.extension_lists.specs.Known.{no_sides, IsKnown, sides_at, IsDropped, StandsOnlyAt}
 use Rattle.path_book.specs.Admitted.{StandsNowhere}
 use Rattle.path_book.proofs.Entering.{entered_itself, entered_still, sides_of_new, stands_nowhere, stands_only, dropped_again}
 use Rattle.path_book.proofs.admit.enter.Goals as goal

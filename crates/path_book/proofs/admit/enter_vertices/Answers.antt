@@ -1,4 +1,4 @@
-use Rattle.std.proofs.Common.{◌≡◌, ◌<◌, ◌≤◌, subst, arith}
+use Rattle.std.proofs.Common.{◌≡◌, subst, arith}
 use Rattle.path_book.specs.Layout.{IsOpenedTo}
 use Rattle.path_book.proofs.Opening.{opened_none, opened_more, not_known_yet}
 use Rattle.path_book.proofs.admit.enter_vertices.Goals as goal

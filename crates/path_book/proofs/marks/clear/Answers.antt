@@ -1,5 +1,5 @@
-use Rattle.std.proofs.Common.{◌≡◌, true, false, sym, ◌∙◌, ap, subst, arith}
-use Rattle.path_book.specs.Layout.{mark_at, marked_in}
+use Rattle.std.proofs.Common.{◌≡◌, true, sym, ◌∙◌, ap, arith}
+use Rattle.path_book.specs.Layout.{mark_at}
 use Rattle.path_book.proofs.Places.{mark_within, marked_cleared, marked_without}
 use Rattle.path_book.proofs.marks.clear.Goals as goal
 

@@ -1,4 +1,4 @@
-use Rattle.std.proofs.Common.{◌≡◌, ℕ, ◌+◌, ◌-◌, ◌++◌, MatchOption, length, take, drop, get_or, refl, sym, ◌∙◌, ap, subst}
+use Rattle.std.proofs.Common.{ℕ, ◌+◌, ◌-◌, ◌++◌, MatchOption, length, take, drop, get_or, refl, sym, ◌∙◌, ap, subst}
 use Rattle.path_arena.specs.Arena.{list_of}
 use Rattle.path_arena.proofs.Paths.{live_from, path_of_at}
 use Rattle.apsp_model.specs.Paths.{IsKeptIn, HasBirthIn}

@@ -1,4 +1,4 @@
-use Rattle.std.proofs.Common.{◌≡◌, ℕ, Some, sym, ◌∙◌, ap, subst, arith}
+use Rattle.std.proofs.Common.{ℕ, Some, ◌∙◌, ap, subst}
 use Rattle.path_book.specs.Book.{Book}
 use Rattle.path_book.specs.Layout.{view_of, IsExtensionTo}
 use Rattle.path_book.proofs.Lookups.{listed_at, none_listed}

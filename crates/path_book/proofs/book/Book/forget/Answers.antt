@@ -1,10 +1,7 @@
-use Rattle.std.proofs.Common.{◌≡◌, ◌≤◌, ◌-◌, Bool, true, false, if◌then◌else◌, refl, sym, ◌∙◌, ap, subst}
-use Rattle.std.specs.FinSet as set
-use Rattle.path_arena.specs.Arena.{HasAnEdge, IsPartOfNone, without_path, left_of, right_of, path_of}
-use Rattle.extension_lists.specs.Known.{IsDropped}
-use Rattle.path_book.specs.Book.{Book, left_id, right_id, IsBook}
-use Rattle.path_book.specs.Layout.{view_of, marked_in, mark_at, IsStored}
-use Rattle.path_book.proofs.Places.{contains-marked_in}
+use Rattle.std.proofs.Common.{true, false, refl, sym, ◌∙◌, subst}
+use Rattle.path_arena.specs.Arena.{HasAnEdge, IsPartOfNone}
+use Rattle.path_book.specs.Book.{Book}
+use Rattle.path_book.specs.Layout.{view_of}
 use Rattle.path_book.proofs.Forgotten.{LeftOver, left_over_now, empty_lists, stands_only, is_held}
 use Rattle.path_book.proofs.book.Book.forget.Goals as goal
 

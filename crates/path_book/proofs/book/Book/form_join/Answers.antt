@@ -1,4 +1,4 @@
-use Rattle.std.proofs.Common.{◌≡◌, ◌≢◌, ◌<◌, ◌≤◌, ◌+◌, ◌^◌, ◌∷◌, [], refl, sym, ◌∙◌, ap, subst, arith}
+use Rattle.std.proofs.Common.{◌≡◌, ◌≢◌, ◌≤◌, ◌+◌, ◌^◌, sym, ◌∙◌, ap, subst, arith}
 use Rattle.path_arena.specs.Arena.{Arena, CanJoin, joined_path, IsArena}
 use Rattle.path_book.specs.Book.{Book, IsMarked, with_kept, IsNewList, IsBook}
 use Rattle.path_book.specs.Layout.{view_of, IsStored}

@@ -1,4 +1,4 @@
-use Rattle.std.proofs.Common.{◌≡◌, sym, ◌∙◌, ap}
+use Rattle.std.proofs.Common.{sym, ◌∙◌, ap}
 use Rattle.std.specs.FinSet as set
 use Rattle.path_book.specs.Layout.{mark_at}
 use Rattle.path_book.proofs.Places.{contains-marked_in}

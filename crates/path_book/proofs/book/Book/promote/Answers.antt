@@ -1,5 +1,5 @@
-use Rattle.std.proofs.Common.{◌≡◌, ◌+◌, ◌-◌, ◌≤◌, ◌<◌, length, slice_set, true, refl, sym, ◌∙◌, ap, subst, arith}
-use Rattle.path_arena.specs.Arena.{IsLive, HasAnEdge}
+use Rattle.std.proofs.Common.{◌≡◌, ◌+◌, ◌-◌, ◌≤◌, slice_set, true, sym, ◌∙◌, ap, subst, arith}
+use Rattle.path_arena.specs.Arena.{IsLive}
 use Rattle.path_book.specs.Book.{Book, IsMarked, with_mark, IsBook}
 use Rattle.path_book.specs.Layout.{view_of, marked_in, IsStored}
 use Rattle.path_book.proofs.Promoted.{stored_promoted, is_promoted}

@@ -1,0 +1,8 @@
+pub mod RoundsMade
+pub mod Lines
+pub mod Replied
+pub mod LineReads
+pub mod Given
+pub mod Taken
+pub mod Ran
+pub mod Outcomes

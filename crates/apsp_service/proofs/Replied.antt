@@ -1,0 +1,100 @@
+-- Replies to lines, one after another; there always are some, and no others.
+use Rattle.std.proofs.Common.{◌≡◌, ℕ, zero, suc, ◌+◌, ◌<◌, List, [], ◌∷◌, ◌++◌, length, get_or, refl, sym, ap, subst, ◌∙◌, arith, inl, inr, append_assoc, append-nil, length-append}
+use Rattle.std.specs.Prelude.{Option, Some, None, Result, Ok, Err}
+use Rattle.std.proofs.lemmas.Bool.{cases_lt}
+use Rattle.std.proofs.Math.ListN.{get_or-append}
+use Rattle.std.proofs.Math.Seq.{get_or-append_seam}
+use Rattle.apsp_model.specs.Graph.{Graph}
+use Rattle.apsp_model.specs.Command.{Command, graph_of}
+use Rattle.apsp_model.specs.Walk.{weight_of}
+use Rattle.apsp_model.proofs.Exists.{least_or_none}
+use Rattle.apsp_service.specs.Distance.{IsDistance}
+use Rattle.apsp_service.specs.Replies.{dist_text, row_text, error_text}
+use Rattle.script_reader.specs.Refused.{Refusal}
+use Rattle.script_reader.specs.declared.Line.{Line}
+use Rattle.script_reader.specs.declared.Line.TheVariants as line
+use Rattle.apsp_service.specs.Session.{State, HasReply, HasAnswer, LineHasReply, HaveReplies, after_line, after_lines, reading_of}
+use Rattle.apsp_service.specs.Giving.{IsFrontOfReplies}
+
+-- ---- there are replies
+
+pub distance_exists : (g : Graph) (x y : ℕ) → (d : Option ℕ) × IsDistance g x y d
+distance_exists g x y = elim (least_or_none g x y) [ inl p ↦ (Some (weight_of g p.0), (p.0, p.1, refl)) | inr none ↦ (None, none) ]
+
+-- the first n of them
+record FirstRow (g : Graph) (x n : ℕ) : Type 0 where
+  row : List (Option ℕ)
+  size : length row ≡ n
+  each : (y : ℕ) → y < n → IsDistance g x y (get_or row y None)
+
+row_more : (g : Graph) (x n : ℕ) (d : Option ℕ) → FirstRow g x n → IsDistance g x n d → FirstRow g x (suc n)
+row_more g x n d r is = record { row = r.row ++ d ∷ []; size = omega (arith, length-append r.row (d ∷ []), r.size); each = each }
+  where
+    each : (y : ℕ) → y < suc n → IsDistance g x y (get_or (r.row ++ d ∷ []) y None)
+    each y l = elim (cases_lt y n) [
+      | inl less ↦ subst (IsDistance g x y) (sym (get_or-append r.row (d ∷ []) None y (omega (arith, r.size)))) (r.each y less)
+      | inr more ↦
+          let same : y ≡ length r.row = omega (arith, r.size) in
+          let at_n : n ≡ y = omega arith in
+          let found : get_or (r.row ++ d ∷ []) y None ≡ d = ap (λ k. get_or (r.row ++ d ∷ []) k None) same ∙ get_or-append_seam r.row d [] None in
+          subst (IsDistance g x y) (sym found) (subst (λ k. IsDistance g x k d) at_n is)
+    ]
+
+row_exists : (g : Graph) (x n : ℕ) → FirstRow g x n
+row_exists g x zero = record { row = []; size = refl; each = λ y l. absurd (omega arith) }
+row_exists g x (suc n) = let d = distance_exists g x n in row_more g x n d.0 (row_exists g x n) d.1
+
+reply_exists : (n : ℕ) (commands : List Command) (l : Line) → (text : List ℕ) × HasReply n commands l text
+reply_exists n commands line.Nothing = ([], refl)
+reply_exists n commands (line.Vertices m) = ([], refl)
+reply_exists n commands (line.Star star) = ([], refl)
+reply_exists n commands (line.Edge u v w) = ([], refl)
+reply_exists n commands (line.Cut u v) = ([], refl)
+reply_exists n commands (line.Dist x y) = let d = distance_exists (graph_of n commands) x y in (dist_text x y d.0, (d.0, d.1, refl))
+reply_exists n commands (line.Path x y) = ([], refl)
+reply_exists n commands (line.Row x) =
+    let r = row_exists (graph_of n commands) x (graph_of n commands).vertices in
+    (row_text x r.row, (r.row, record { size = r.size; each = r.each }, refl))
+reply_exists n commands line.Stats = ([], refl)
+reply_exists n commands (line.Age list) = ([], refl)
+
+answer_exists : (s : State) (read : Result Line Refusal) → (text : List ℕ) × HasAnswer s read text
+answer_exists s (Ok l) = reply_exists s.vertices s.commands l
+answer_exists s (Err refusal) = (error_text (s.lines + 1) refusal.code refusal.place, refl)
+
+pub replies_exist : (s : State) (lines : List (List ℕ)) → (text : List ℕ) × HaveReplies s lines text
+replies_exist s [] = ([], refl)
+replies_exist s (bytes ∷ lines) =
+    let first = answer_exists s (reading_of s bytes) in
+    let others = replies_exist (after_line s bytes) lines in
+    (first.0 ++ others.0, (first.0, others.0, first.1, others.1, refl))
+
+-- ---- one after another
+
+pub after_lines-append : (s : State) (xs ys : List (List ℕ)) → after_lines s (xs ++ ys) ≡ after_lines (after_lines s xs) ys
+after_lines-append s [] ys = refl
+after_lines-append s (bytes ∷ xs) ys = after_lines-append (after_line s bytes) xs ys
+
+pub replies_append : (s : State) (xs ys : List (List ℕ)) (t u : List ℕ) → HaveReplies s xs t → HaveReplies (after_lines s xs) ys u → HaveReplies s (xs ++ ys) (t ++ u)
+replies_append s [] ys t u h k = let P : List ℕ → Type 0 = λ v. HaveReplies s ys v in subst P (sym (ap (λ v. v ++ u) h)) k
+replies_append s (bytes ∷ xs) ys t u h k =
+    (h.0, h.1 ++ u, h.2, replies_append (after_line s bytes) xs ys h.1 u h.3 k, ap (λ v. v ++ u) h.4 ∙ append_assoc h.0 h.1 u)
+
+pub one_reply : (s : State) (bytes text : List ℕ) → LineHasReply s bytes text → HaveReplies s (bytes ∷ []) text
+one_reply s bytes text h = (text, [], h, refl, sym (append-nil text))
+
+-- a front of the replies to these lines is one of the replies to more lines
+pub front_of_more : (s : State) (xs ys : List (List ℕ)) (front : List ℕ) → IsFrontOfReplies s xs front → IsFrontOfReplies s (xs ++ ys) front
+front_of_more s xs ys front h =
+    let more = replies_exist (after_lines s xs) ys in
+    (h.0 ++ more.0, let P : List ℕ → Type 0 = λ v. HaveReplies s (xs ++ ys) v in subst P (append_assoc front h.0 more.0) (replies_append s xs ys (front ++ h.0) more.0 h.1 more.1))
+
+pub front_behind : (s : State) (xs ys : List (List ℕ)) (t front : List ℕ) → HaveReplies s xs t → IsFrontOfReplies (after_lines s xs) ys front → IsFrontOfReplies s (xs ++ ys) (t ++ front)
+front_behind s xs ys t front h k =
+    (k.0, let P : List ℕ → Type 0 = λ v. HaveReplies s (xs ++ ys) v in subst P (sym (append_assoc t front k.0)) (replies_append s xs ys t (front ++ k.0) h k.1))
+
+pub front_whole : (s : State) (xs : List (List ℕ)) (t : List ℕ) → HaveReplies s xs t → IsFrontOfReplies s xs t
+front_whole s xs t h = ([], let P : List ℕ → Type 0 = λ v. HaveReplies s xs v in subst P (sym (append-nil t)) h)
+
+pub front_none : (s : State) (xs : List (List ℕ)) → IsFrontOfReplies s xs []
+front_none s xs = replies_exist s xs

@@ -1,0 +1,61 @@
+-- What a session gives to a sink, and how it stops.
+use Rattle.std.specs.Prelude.{◌≡◌, ℕ, List, [], ◌++◌, Bool, Option, Some, None, Result, Ok, Err}
+use Rattle.std.specs.Io.KnownBytes.{Appends}
+use Rattle.apsp_io.specs.Streams.{Rose, GrowsByPrefix}
+use Rattle.apsp_model.specs.Graph.{Graph}
+use Rattle.apsp_model.specs.Command.{Command, graph_of}
+use Rattle.script_reader.specs.declared.Line.{Line}
+use Rattle.apsp_service.specs.Session.{State, HasReply, HaveReplies}
+use Rattle.apsp_service.specs.declared.stop.Stop.{Stop}
+use Rattle.apsp_service.specs.declared.stop.Stop.TheVariants as stop
+
+-- the sink got the replies to these lines
+abbrev pub Gave : Option (List ℕ) → Option (List ℕ) → State → List (List ℕ) → Type 0
+Gave old new s lines = (text : List ℕ) × HaveReplies s lines text × Appends old new text
+
+-- the bytes are a front of the replies to these lines
+abbrev pub IsFrontOfReplies : State → List (List ℕ) → List ℕ → Type 0
+IsFrontOfReplies s lines front = (rest : List ℕ) × HaveReplies s lines (front ++ rest)
+
+-- the sink got a front of them
+abbrev pub GaveFront : Option (List ℕ) → Option (List ℕ) → State → List (List ℕ) → Type 0
+GaveFront old new s lines = (front : List ℕ) × IsFrontOfReplies s lines front × Appends old new front
+
+-- what a stop while these lines are answered leaves
+abbrev pub StopsAmong : Stop → Option (List ℕ) → Option (List ℕ) → ℕ → ℕ → State → List (List ℕ) → Type 0
+StopsAmong stop.Source old new before now s lines = ⊥
+StopsAmong stop.Sink old new before now s lines = GaveFront old new s lines × Rose before now
+StopsAmong stop.Memory old new before now s lines = GaveFront old new s lines
+StopsAmong stop.Limit old new before now s lines = ⊥
+
+-- how giving the replies to these lines ends
+abbrev pub GivingEnds : {A : Type 0} → Result A Stop → Option (List ℕ) → Option (List ℕ) → ℕ → ℕ → State → List (List ℕ) → Type 0
+GivingEnds (Ok a) old new before now s lines = Gave old new s lines
+GivingEnds (Err e) old new before now s lines = StopsAmong e old new before now s lines
+
+-- a text was given
+abbrev pub TextGiven : {A : Type 0} → Result A Stop → Option (List ℕ) → Option (List ℕ) → ℕ → ℕ → List ℕ → Type 0
+TextGiven (Ok a) old new before now text = Appends old new text
+TextGiven (Err stop.Source) old new before now text = ⊥
+TextGiven (Err stop.Sink) old new before now text = GrowsByPrefix old new text × Rose before now
+TextGiven (Err stop.Memory) old new before now text = Appends old new []
+TextGiven (Err stop.Limit) old new before now text = ⊥
+
+-- the graph that the code has is that of the commands; before the line `vertices` there is none
+abbrev pub HasNetwork : Option Graph → State → Type 0
+HasNetwork None s = (s.vertices ≡ 0) × (s.commands ≡ [])
+HasNetwork (Some g) s = (s.vertices ≡ g.vertices) × (g ≡ graph_of s.vertices s.commands)
+
+abbrev pub vertices_in : Option Graph → ℕ
+vertices_in None = 0
+vertices_in (Some g) = g.vertices
+
+-- the fields of a session say what the state says
+pub record StandFor (g : Option Graph) (count : ℕ) (some_refused : Bool) (s : State) : Type 0 where
+  pub network : HasNetwork g s
+  pub lines : count ≡ s.lines
+  pub refused : some_refused ≡ s.refused
+
+-- a text grows by the reply
+abbrev pub AppendsReply : ℕ → List Command → Line → List ℕ → List ℕ → Type 0
+AppendsReply n commands l old new = (reply : List ℕ) × HasReply n commands l reply × (new ≡ old ++ reply)

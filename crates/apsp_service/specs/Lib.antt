@@ -1,0 +1,11 @@
+pub mod Distance
+pub mod Rounds
+pub mod Replies
+pub mod Begun
+pub mod Words
+pub mod Session
+pub mod Giving
+pub mod Standing
+pub mod Running
+pub mod NetworkInside
+pub mod Outcome

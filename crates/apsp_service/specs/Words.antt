@@ -1,0 +1,15 @@
+-- The words of the command line.
+use Rattle.std.specs.Prelude.{ℕ, false, List, [], ◌∷◌, Option, Some, None, codes, if◌then◌else◌}
+use Rattle.std.specs.Str.{bytes_eq}
+use Rattle.apsp_service.specs.declared.words.Mode.{Mode}
+use Rattle.apsp_service.specs.declared.words.Mode.TheVariants as mode
+
+-- what the options behind the mode `run` say
+abbrev pub run_of : List (List ℕ) → Option Mode
+run_of [] = Some (mode.Run 4 false)
+run_of (option ∷ options) = None
+
+-- the mode that the words give, if they are in the grammar; no words mean `run`
+abbrev pub mode_of : List (List ℕ) → Option Mode
+mode_of [] = run_of []
+mode_of (word ∷ options) = if bytes_eq word (codes "run") then run_of options else None

@@ -1,0 +1,118 @@
+ghost use Rattle.std.specs.Prelude.{◌≡◌, ◌⊎◌, ◌↔◌, ◌+◌, ◌≤◌, List, ℕ, length, map, None, IfSome, IsSome, string_bytes};
+ghost use Rattle.apsp_service.specs.Words.{mode_of};
+ghost use Rattle.apsp_io.specs.Streams.{Rose};
+ghost use Rattle.apsp_service.specs.Session.{Session};
+ghost use Rattle.apsp_service.specs.Outcome.{status_after, ReadToEnd, IsStatus, IsAnswered, IsStoppedEarly, IsCutShort, IsComplete, TookMoreThan, TookAtMost, SaysTooMuch, SaysRefused};
+
+use crate::run::{MOST_INPUT, run};
+use crate::stop::Stop;
+use crate::words::{Mode, read_words};
+use apsp_io::{Gate, Sink, Source};
+use std::alloc::Global;
+use std::marker::Sync;
+use std::sync::Wait;
+use std::thread::Threads;
+
+/// Runs a script: takes its lines from the source and gives the sink a reply to each line that has
+/// one, as soon as the line is whole. It waits for nobody and returns.
+///
+/// The status is 0 where the input was read to its end and no line was refused, and 1 where one
+/// was. It is 3 or 4 where the source or the sink failed, 5 where memory ran out, and 6 where the
+/// input has more than `MOST_INPUT` bytes.
+pub fn script<S: Source, K: Sink, G: Gate, R: Threads + Sync>(
+    _rt: &R,
+    alloc: Global,
+    mode: &Mode,
+    source: &mut S,
+    sink: &mut K,
+    _gate: &G,
+) -> u8
+    // Of a status: the session of the whole input gives it, or what failed has counted a fault.
+    ensures answered { ReadToEnd result → IsAnswered mode.now (S.left source.old) (S.left source.new) (K.held sink.old) (K.held sink.new) result }
+    ensures source_failed { result ≡ 3 → Rose (S.faults source.old) (S.faults source.new) }
+    ensures sink_failed { result ≡ 4 → Rose (K.faults sink.old) (K.faults sink.new) }
+    ensures too_much { result ≡ 6 → IfSome (S.left source.old) (λ _. TookMoreThan MOST_INPUT (S.left source.old) (S.left source.new)) }
+    ensures statuses { IsStatus result }
+
+    // Which status comes: want of memory aside, and what fails.
+    ensures says_too_much { TookMoreThan MOST_INPUT (S.left source.old) (S.left source.new) → SaysTooMuch result (K.faults sink.old) (K.faults sink.new) }
+    ensures says_refused { IfSome (S.left source.old) (λ input. (text : List ℕ) → Session mode.now input text 1
+        → SaysRefused result (S.left source.old) (S.left source.new) (S.faults source.old) (S.faults source.new) (K.faults sink.old) (K.faults sink.new)) }
+    ensures complete { IfSome (S.left source.old) (λ input. length input ≤ MOST_INPUT
+        → (Rose (S.faults source.old) (S.faults source.new) → ⊥) → (Rose (K.faults sink.old) (K.faults sink.new) → ⊥)
+        → (result ≡ 5) ⊎ IsComplete mode.now input (K.held sink.old) (K.held sink.new) result) }
+
+    // What was written by a run that ended early.
+    ensures stopped_early { (result ≡ 3) ⊎ (result ≡ 6) → IsStoppedEarly mode.now (S.left source.old) (S.left source.new) (K.held sink.old) (K.held sink.new) }
+    ensures cut_short { (result ≡ 4) ⊎ (result ≡ 5) → IfSome (S.left source.old) (λ input. IsCutShort mode.now input (K.held sink.old) (K.held sink.new)) }
+
+    ensures takes { TookAtMost (MOST_INPUT + 1) (S.left source.old) (S.left source.new) }
+    ensures source_later { S.faults source.old ≤ S.faults source.new }
+    ensures sink_later { K.faults sink.old ≤ K.faults sink.new }
+{
+    match mode {
+        Mode::Run { .. } => status(run(alloc, source, sink)),
+    }
+}
+
+/// All that the program does: runs the mode that the words of the command line give. The status is 2
+/// where they give none, and nothing is read or written then; otherwise it is that of the mode.
+pub fn top<S: Source, K: Sink, G: Gate, R: Threads + Wait + Sync>(
+    rt: &R,
+    alloc: Global,
+    words: &[String],
+    source: &mut S,
+    sink: &mut K,
+    gate: &G,
+) -> u8
+    // The words.
+    ensures words { (result ≡ 2) ↔ (mode_of (map string_bytes words.now) ≡ None) }
+    ensures source_untouched { result ≡ 2 → source.new ≡ source.old }
+    ensures sink_untouched { result ≡ 2 → sink.new ≡ sink.old }
+
+    // Of a status: the session of the whole input gives it, or what failed has counted a fault.
+    ensures answered { IfSome (mode_of (map string_bytes words.now)) (λ mode. ReadToEnd result
+        → IsAnswered mode (S.left source.old) (S.left source.new) (K.held sink.old) (K.held sink.new) result) }
+    ensures source_failed { result ≡ 3 → Rose (S.faults source.old) (S.faults source.new) }
+    ensures sink_failed { result ≡ 4 → Rose (K.faults sink.old) (K.faults sink.new) }
+    ensures too_much { result ≡ 6 → IfSome (S.left source.old) (λ _. TookMoreThan MOST_INPUT (S.left source.old) (S.left source.new)) }
+    ensures statuses { IsSome (mode_of (map string_bytes words.now)) → IsStatus result }
+
+    // Which status comes: want of memory aside, and what fails.
+    ensures says_too_much { IsSome (mode_of (map string_bytes words.now)) → TookMoreThan MOST_INPUT (S.left source.old) (S.left source.new)
+        → SaysTooMuch result (K.faults sink.old) (K.faults sink.new) }
+    ensures says_refused { IfSome (mode_of (map string_bytes words.now)) (λ mode. IfSome (S.left source.old) (λ input. (text : List ℕ) → Session mode input text 1
+        → SaysRefused result (S.left source.old) (S.left source.new) (S.faults source.old) (S.faults source.new) (K.faults sink.old) (K.faults sink.new))) }
+    ensures complete { IfSome (mode_of (map string_bytes words.now)) (λ mode. IfSome (S.left source.old) (λ input. length input ≤ MOST_INPUT
+        → (Rose (S.faults source.old) (S.faults source.new) → ⊥) → (Rose (K.faults sink.old) (K.faults sink.new) → ⊥)
+        → (result ≡ 5) ⊎ IsComplete mode input (K.held sink.old) (K.held sink.new) result)) }
+
+    // What was written by a run that ended early.
+    ensures stopped_early { IfSome (mode_of (map string_bytes words.now)) (λ mode. (result ≡ 3) ⊎ (result ≡ 6)
+        → IsStoppedEarly mode (S.left source.old) (S.left source.new) (K.held sink.old) (K.held sink.new)) }
+    ensures cut_short { IfSome (mode_of (map string_bytes words.now)) (λ mode. (result ≡ 4) ⊎ (result ≡ 5)
+        → IfSome (S.left source.old) (λ input. IsCutShort mode input (K.held sink.old) (K.held sink.new))) }
+
+    ensures takes { TookAtMost (MOST_INPUT + 1) (S.left source.old) (S.left source.new) }
+    ensures source_later { S.faults source.old ≤ S.faults source.new }
+    ensures sink_later { K.faults sink.old ≤ K.faults sink.new }
+{
+    match read_words(words) {
+        Some(mode) => script(rt, alloc, &mode, source, sink, gate),
+        None => 2,
+    }
+}
+
+/// The status of a run that came to the end of its input, or stopped.
+fn status(end: Result<bool, Stop>) -> u8
+    ensures { result ≡ status_after end }
+{
+    match end {
+        Ok(false) => 0,
+        Ok(true) => 1,
+        Err(Stop::Source) => 3,
+        Err(Stop::Sink) => 4,
+        Err(Stop::Memory) => 5,
+        Err(Stop::Limit) => 6,
+    }
+}

@@ -1,0 +1,18 @@
+//! Sessions: the lines of an input are answered one by one, and the call `top` does all that the
+//! program does.
+#![tactic(auto)]
+
+mod distances;
+mod entry;
+mod network;
+mod replies;
+mod run;
+mod session;
+mod stop;
+#[cfg(test)]
+mod tests;
+mod words;
+
+pub use entry::{script, top};
+pub use run::MOST_INPUT;
+pub use words::{Mode, read_words};

@@ -1,0 +1,258 @@
+-- Each path through v with an edge has one parent, and the walk comes from there.
+use Rattle.std.specs.Prelude.{◌≡◌, ℕ, ◌+◌, ◌<◌, ◌≤◌, ◌⊎◌, ◌↔◌, Bool, true, false, if◌then◌else◌, List, [], ◌∷◌, length, Option, Some, None, is_some, unwrap_or, refl, Contains}
+use Rattle.std.proofs.Common.{sym, ◌∙◌, ap, subst, arith, inl, inr}
+use Rattle.std.proofs.lemmas.Bool.{cases_Bool, eq-eqb, eqb-true, false≢true}
+use Rattle.std.proofs.lemmas.List.{length-append}
+use Rattle.std.proofs.lemmas.List.Elements.{Contains-append_left, Contains-append_right, Contains-append_cases}
+use Rattle.apsp_model.specs.Walk.{IsSimple, first}
+use Rattle.apsp_model.specs.Part.{left_part, right_part}
+use Rattle.apsp_model.proofs.Lists.{left_and_last, length_right, contains_cons, contains_nil, ends_differ}
+use Rattle.fixup_math.proofs.Counting.{in_nil, head_in, tail_in}
+use Rattle.path_arena.specs.Arena.{Path, no_path, path_at, vertex_of, IsLive, list_of, left_of, right_of, HasAnEdge, single}
+use Rattle.path_arena.proofs.Paths.{Parted, parted, live_path, live_from, live_from_edge, path_of_at}
+use Rattle.extension_lists.specs.Known.{sides_at}
+use Rattle.path_book.specs.Book.{Book, IsBook}
+use Rattle.path_book.proofs.Readers.{single_or_edge, long_of_edge}
+use Rattle.cleanup_tasks.specs.Victims.{IsThrough, hops_at}
+use Rattle.cleanup_tasks.specs.Walk.{begins_with, starts_at, longer_of}
+
+-- ---- lists
+
+begins_true : (p : List ℕ) (v : ℕ) → begins_with p v ≡ true → first p ≡ Some v
+begins_true [] v e = absurd (false≢true e)
+begins_true (x ∷ p) v e = ap Some (eqb-true x v e)
+
+begins_from : (p : List ℕ) (v : ℕ) → first p ≡ Some v → begins_with p v ≡ true
+begins_from [] v e = cc
+begins_from (x ∷ p) v e = eq-eqb x v (let two : Some x ≡ Some v = e in cc)
+
+first_stands : (p : List ℕ) (v : ℕ) → first p ≡ Some v → Contains p v
+first_stands [] v e = cc
+first_stands (x ∷ p) v e = (0, omega arith, (let two : Some x ≡ Some v = e in let same : x ≡ v = cc in same))
+
+-- the list without its last vertex begins alike, where it is not empty
+first_of_left : (p : List ℕ) → 1 < length p → first (left_part p) ≡ first p
+first_of_left [] long = absurd (omega arith)
+first_of_left (x ∷ []) long = absurd (omega arith)
+first_of_left (x ∷ y ∷ p) long = refl
+
+-- what stands in a part stands in the list
+pub in_left : (p : List ℕ) (v : ℕ) → 0 < length p → Contains (left_part p) v → Contains p v
+in_left p v some c =
+    let w = left_and_last p some in
+    subst (λ q. Contains q v) (sym w.1) (Contains-append_left (left_part p) (w.0 ∷ []) v c)
+
+pub in_right : (p : List ℕ) (v : ℕ) → Contains (right_part p) v → Contains p v
+in_right [] v c = c
+in_right (x ∷ p) v c = tail_in v x p c
+
+-- a vertex that is not the first stands in the list without its first
+to_right : (p : List ℕ) (v : ℕ) → (first p ≡ Some v → ⊥) → Contains p v → Contains (right_part p) v
+to_right [] v apart c = c
+to_right (x ∷ p) v apart c = elim (contains_cons v x p c) [ inl same ↦ absurd (apart (ap Some same)) | inr more ↦ more ]
+
+-- the first of a simple list does not stand behind it
+first_alone : (p : List ℕ) (v : ℕ) → IsSimple p → Contains (right_part p) v → first p ≡ Some v → ⊥
+first_alone [] v simple c e = cc
+first_alone (x ∷ p) v simple c e = simple.0 (let two : Some x ≡ Some v = e in let same : x ≡ v = cc in subst (Contains p) (sym same) c)
+
+-- a live path that passes v
+abbrev pub Passes : Book → ℕ → ℕ → Type 0
+Passes b v id = IsLive b.arena id × Contains (list_of b.arena id) v
+
+-- q is the child of p: p is q without its last vertex where q starts at v, and without its first vertex otherwise
+abbrev pub IsChild : Book → ℕ → ℕ → ℕ → Type 0
+IsChild b v p q = ((starts_at b v q ≡ true) × (left_of b.arena q ≡ Some p)) ⊎ ((starts_at b v q ≡ false) × (right_of b.arena q ≡ Some p))
+
+module _ (b : Book) (was : IsBook b) where
+  pub simple_list : (id : ℕ) → IsLive b.arena id → IsSimple (list_of b.arena id)
+  simple_list id live =
+      let p = live_path b.arena id live in
+      subst IsSimple (sym (ap (λ q. q.list) (path_of_at b.arena id p.0 p.1))) (was.arena.paths id p.0 p.1).simple
+
+  -- the parts of a path with an edge
+  pub record Ends (id : ℕ) : Type 0 where
+    pub left : ℕ
+    pub right : ℕ
+    pub left_is : left_of b.arena id ≡ Some left
+    pub right_is : right_of b.arena id ≡ Some right
+    pub left_live : IsLive b.arena left
+    pub right_live : IsLive b.arena right
+    pub left_list : list_of b.arena left ≡ left_part (list_of b.arena id)
+    pub right_list : list_of b.arena right ≡ right_part (list_of b.arena id)
+    pub long : 1 < length (list_of b.arena id)
+
+  pub ends : (id : ℕ) → HasAnEdge b.arena id → Ends id
+  ends id edge =
+      let p : Parted b.arena id = parted b.arena id was.arena edge in
+      record {
+        left = p.parts.left;
+        right = p.parts.right;
+        left_is = ap (λ q. q.left) p.of ∙ p.parts.left_is;
+        right_is = ap (λ q. q.right) p.of ∙ p.parts.right_is;
+        left_live = p.parts.left_live;
+        right_live = p.parts.right_live;
+        left_list = p.parts.left_list ∙ ap (λ q. left_part q.list) (sym p.of);
+        right_list = p.parts.right_list ∙ ap (λ q. right_part q.list) (sym p.of);
+        long = long_of_edge b.arena id was.arena edge;
+      }
+
+  pub hops_left : (id : ℕ) (e : Ends id) → hops_at b id ≡ hops_at b e.left + 1
+  hops_left id e =
+      let long : 1 < length (list_of b.arena id) = e.long in
+      let w = left_and_last (list_of b.arena id) (omega arith) in
+      omega (arith, ap length w.1, length-append (left_part (list_of b.arena id)) (w.0 ∷ []), ap length e.left_list)
+
+  pub hops_right : (id : ℕ) (e : Ends id) → hops_at b id ≡ hops_at b e.right + 1
+  hops_right id e =
+      let long : 1 < length (list_of b.arena id) = e.long in
+      omega (arith, length_right (list_of b.arena id) (omega arith), ap length e.right_list)
+
+  -- a path with a right part has an edge
+  pub edge_of_right : (q p : ℕ) → right_of b.arena q ≡ Some p → HasAnEdge b.arena q
+  edge_of_right q p right = go (path_at b.arena q) refl
+    where
+      go : (o : Option Path) → path_at b.arena q ≡ o → HasAnEdge b.arena q
+      go None e = absurd (let two : None ≡ Some p = sym (ap (λ o. (unwrap_or o no_path).right) e) ∙ right in cc)
+      go (Some r) e = elim (single_or_edge b.arena q was.arena (ap is_some e)) [
+        | inl one ↦
+            let alone : right_of b.arena q ≡ None = ap (right_of b.arena) one.2 ∙ ap (λ s. s.right) (path_of_at b.arena (vertex_of b.arena one.0) (single one.0) (was.arena.singles one.0 one.1)) in
+            absurd (let two : None ≡ Some p = sym alone ∙ right in cc)
+        | inr edge ↦ edge
+      ]
+
+  -- the children of a path that passes v are those that the walk puts behind it
+  pub longer_exact : (v p q : ℕ) → Passes b v p → Contains (longer_of b v p) q ↔ IsChild b v p q
+  longer_exact v p q passes = (
+    λ c. elim (Contains-append_cases (sides_at b.lists p).left (if starts_at b v p then (sides_at b.lists p).right else []) q c) [
+      | inl in_front ↦ inr (in_front_starts_not ((was.extensions.left p q).0 in_front), (was.extensions.left p q).0 in_front)
+      | inr behind ↦ elim (cases_Bool (starts_at b v p)) [
+        | inl at_v ↦
+            let c2 : Contains (sides_at b.lists p).right q = subst (λ (t : Bool). Contains (if t then (sides_at b.lists p).right else []) q) at_v behind in
+            let left : left_of b.arena q ≡ Some p = (was.extensions.right p q).0 c2 in
+            inl (starts_on q left at_v, left)
+        | inr away ↦ absurd (in_nil q (subst (λ (t : Bool). Contains (if t then (sides_at b.lists p).right else []) q) away behind))
+      ]
+    ],
+    λ h. elim h [
+      | inl behind ↦
+          let at_v : starts_at b v p ≡ true = starts_before q behind.1 behind.0 in
+          Contains-append_right (sides_at b.lists p).left (if starts_at b v p then (sides_at b.lists p).right else []) q
+          (subst (λ (t : Bool). Contains (if t then (sides_at b.lists p).right else []) q) (sym at_v) ((was.extensions.right p q).1 behind.1))
+      | inr in_front ↦ Contains-append_left (sides_at b.lists p).left (if starts_at b v p then (sides_at b.lists p).right else []) q ((was.extensions.left p q).1 in_front.1)
+    ],
+  )
+    where
+      with_left : (q : ℕ) → left_of b.arena q ≡ Some p → Ends q × (list_of b.arena p ≡ left_part (list_of b.arena q))
+      with_left q left =
+          let e : Ends q = ends q (ap is_some left) in
+          let same : e.left ≡ p = (let two : Some e.left ≡ Some p = sym e.left_is ∙ left in cc) in
+          (e, ap (list_of b.arena) (sym same) ∙ e.left_list)
+
+      starts_on : (q : ℕ) → left_of b.arena q ≡ Some p → starts_at b v p ≡ true → starts_at b v q ≡ true
+      starts_on q left at_v =
+          let w = with_left q left in
+          let same : first (list_of b.arena p) ≡ first (list_of b.arena q) = ap first w.1 ∙ first_of_left (list_of b.arena q) w.0.long in
+          begins_from (list_of b.arena q) v (sym same ∙ begins_true (list_of b.arena p) v at_v)
+
+      starts_before : (q : ℕ) → left_of b.arena q ≡ Some p → starts_at b v q ≡ true → starts_at b v p ≡ true
+      starts_before q left at_v =
+          let w = with_left q left in
+          let same : first (list_of b.arena p) ≡ first (list_of b.arena q) = ap first w.1 ∙ first_of_left (list_of b.arena q) w.0.long in
+          begins_from (list_of b.arena p) v (same ∙ begins_true (list_of b.arena q) v at_v)
+
+      in_front_starts_not : right_of b.arena q ≡ Some p → starts_at b v q ≡ false
+      in_front_starts_not right = elim (cases_Bool (starts_at b v q)) [
+        | inl at_v ↦
+            let edge : HasAnEdge b.arena q = edge_of_right q p right in
+            let e : Ends q = ends q edge in
+            let same : e.right ≡ p = (let two : Some e.right ≡ Some p = sym e.right_is ∙ right in cc) in
+            let list : list_of b.arena p ≡ right_part (list_of b.arena q) = ap (list_of b.arena) (sym same) ∙ e.right_list in
+            absurd (first_alone (list_of b.arena q) v (simple_list q (live_from_edge b.arena q was.arena edge)) (subst (λ xs. Contains xs v) list passes.1) (begins_true (list_of b.arena q) v at_v))
+        | inr away ↦ away
+      ]
+
+  -- a child is a path through v, with one edge more
+  pub record ChildFacts (v p q : ℕ) : Type 0 where
+    pub through : IsThrough b v q
+    pub hops : hops_at b q ≡ hops_at b p + 1
+
+  pub child_facts : (v p q : ℕ) → Passes b v p → IsChild b v p q → ChildFacts v p q
+  child_facts v p q passes h = elim h [
+    | inl behind ↦
+        let edge : HasAnEdge b.arena q = ap is_some behind.1 in
+        let e : Ends q = ends q edge in
+        let same : e.left ≡ p = (let two : Some e.left ≡ Some p = sym e.left_is ∙ behind.1 in cc) in
+        let long : 1 < length (list_of b.arena q) = e.long in
+        record {
+          through = (edge, first_stands (list_of b.arena q) v (begins_true (list_of b.arena q) v behind.0));
+          hops = hops_left q e ∙ ap (λ j. hops_at b j + 1) same;
+        }
+    | inr in_front ↦
+        let edge : HasAnEdge b.arena q = edge_of_right q p in_front.1 in
+        let e : Ends q = ends q edge in
+        let same : e.right ≡ p = (let two : Some e.right ≡ Some p = sym e.right_is ∙ in_front.1 in cc) in
+        let list : list_of b.arena p ≡ right_part (list_of b.arena q) = ap (list_of b.arena) (sym same) ∙ e.right_list in
+        record {
+          through = (edge, in_right (list_of b.arena q) v (subst (λ xs. Contains xs v) list passes.1));
+          hops = hops_right q e ∙ ap (λ j. hops_at b j + 1) same;
+        }
+  ]
+
+  -- the parent of a path through v passes v
+  pub record ParentOf (v q : ℕ) : Type 0 where
+    pub parent : ℕ
+    pub is : IsChild b v parent q
+    pub passes : Passes b v parent
+
+  pub parent_of : (v q : ℕ) → IsThrough b v q → ParentOf v q
+  parent_of v q through = elim (cases_Bool (starts_at b v q)) [
+    | inl at_v ↦ record {
+      parent = e.left;
+      is = inl (at_v, e.left_is);
+      passes = (e.left_live, subst (λ xs. Contains xs v) (sym e.left_list) (first_stands (left_part (list_of b.arena q)) v (first_of_left (list_of b.arena q) e.long ∙ begins_true (list_of b.arena q) v at_v)));
+    }
+    | inr away ↦ record {
+      parent = e.right;
+      is = inr (away, e.right_is);
+      passes = (e.right_live, subst (λ xs. Contains xs v) (sym e.right_list) (to_right (list_of b.arena q) v (λ f. false≢true (sym away ∙ begins_from (list_of b.arena q) v f)) through.1));
+    }
+  ]
+    where
+      e : Ends q
+      e = ends q through.0
+
+  -- a child has one parent
+  pub one_parent : (v p r q : ℕ) → IsChild b v p q → IsChild b v r q → p ≡ r
+  one_parent v p r q (inl h) (inl k) = (let two : Some p ≡ Some r = sym h.1 ∙ k.1 in cc)
+  one_parent v p r q (inl h) (inr k) = absurd (false≢true (sym k.0 ∙ h.0))
+  one_parent v p r q (inr h) (inl k) = absurd (false≢true (sym h.0 ∙ k.0))
+  one_parent v p r q (inr h) (inr k) = (let two : Some p ≡ Some r = sym h.1 ∙ k.1 in cc)
+
+  -- a path that passes v is its single vertex or goes through v with an edge
+  pub single_or_through : (v id : ℕ) → Passes b v id → (id ≡ vertex_of b.arena v) ⊎ IsThrough b v id
+  single_or_through v id passes = elim (single_or_edge b.arena id was.arena passes.0) [
+    | inl one ↦
+        let alone : Contains (one.0 ∷ []) v = subst (λ xs. Contains xs v) one.3 passes.1 in
+        inl (one.2 ∙ ap (vertex_of b.arena) (elim (contains_cons v one.0 [] alone) [ inl same ↦ same | inr none ↦ absurd (contains_nil v none) ]))
+    | inr edge ↦ inr (edge, passes.1)
+  ]
+
+  pub single_passes : (v : ℕ) → v < b.arena.vertices → Passes b v (vertex_of b.arena v) × (hops_at b (vertex_of b.arena v) ≡ 0)
+  single_passes v l =
+      let of : list_of b.arena (vertex_of b.arena v) ≡ v ∷ [] = ap (λ p. p.list) (path_of_at b.arena (vertex_of b.arena v) (single v) (was.arena.singles v l)) in
+      ((live_from b.arena (vertex_of b.arena v) (single v) (was.arena.singles v l), subst (λ xs. Contains xs v) (sym of) (head_in v v [] refl)), omega (arith, ap length of))
+
+  pub some_hops : (v id : ℕ) → IsThrough b v id → 1 ≤ hops_at b id
+  some_hops v id through = let long : 1 < length (list_of b.arena id) = long_of_edge b.arena id was.arena through.0 in omega arith
+
+  -- the two parts of a path differ
+  pub ends_apart : (q id : ℕ) → left_of b.arena q ≡ Some id → right_of b.arena q ≡ Some id → ⊥
+  ends_apart q id left right =
+      let edge : HasAnEdge b.arena q = ap is_some left in
+      let e : Ends q = ends q edge in
+      let same_left : e.left ≡ id = (let two : Some e.left ≡ Some id = sym e.left_is ∙ left in cc) in
+      let same_right : e.right ≡ id = (let two : Some e.right ≡ Some id = sym e.right_is ∙ right in cc) in
+      let parts : left_part (list_of b.arena q) ≡ right_part (list_of b.arena q) = sym e.left_list ∙ ap (list_of b.arena) (same_left ∙ sym same_right) ∙ e.right_list in
+      let long : 1 < length (list_of b.arena q) = e.long in
+      ends_differ (list_of b.arena q) (omega arith) (simple_list q (live_from_edge b.arena q was.arena edge)) parts

@@ -1,0 +1,17 @@
+-- The walk along the extensions of paths. No public clause cites this module.
+use Rattle.std.specs.Prelude.{ℕ, Bool, false, ◌==◌, if◌then◌else◌, List, [], ◌∷◌, ◌++◌}
+use Rattle.path_arena.specs.Arena.{list_of}
+use Rattle.extension_lists.specs.Known.{sides_at}
+use Rattle.path_book.specs.Book.{Book}
+
+-- whether a list, and the path of an id, starts at v
+abbrev pub begins_with : List ℕ → ℕ → Bool
+begins_with [] v = false
+begins_with (x ∷ p) v = x == v
+
+abbrev pub starts_at : Book → ℕ → ℕ → Bool
+starts_at b v id = begins_with (list_of b.arena id) v
+
+-- the paths that are one edge longer and have the path of the id as their parent: all that go on in front, and, where it starts at v, all that go on behind
+abbrev pub longer_of : Book → ℕ → ℕ → List ℕ
+longer_of b v id = (sides_at b.lists id).left ++ (if starts_at b v id then (sides_at b.lists id).right else [])

@@ -1,0 +1,28 @@
+//! The paths through a vertex are forgotten.
+
+ghost use Rattle.std.specs.Prelude.{◌≡◌};
+ghost use Rattle.apsp_model.specs.Settled.{IsCleaned};
+ghost use Rattle.path_book.specs.Book.{IsBook, kept_paths};
+ghost use Rattle.cleanup_tasks.specs.Victims.{IsVictims};
+
+use crate::listed::Victims;
+use path_book::Book;
+
+/// Forgets the listed paths, which are all the kept paths with an edge through the list's vertex.
+/// What is left are the kept paths that avoid the vertex and the single vertices, each with its
+/// weight, mark and birth.
+pub fn forget_all(book: &mut Book, list: &Victims)
+    requires { IsVictims book.old list.now.vertex list.now.ids }
+    ensures cleaned { IsCleaned list.now.vertex (kept_paths book.old) (kept_paths book.new) }
+    ensures vertices { book.new.arena.vertices ≡ book.old.arena.vertices }
+    ensures lawful { IsBook book.new }
+{
+    // A reader tells what holds of every book.
+    let _ = book.arena();
+    // The longest come first, so each is part of no other then.
+    let mut rest = list.ids();
+    'longest: while let Some((&id, shorter)) = rest.split_last() {
+        book.forget(id);
+        rest = shorter;
+    }
+}

@@ -1,0 +1,14 @@
+-- The times of the updates.
+use Rattle.std.specs.Prelude.{◌≡◌, ℕ, ◌+◌, ◌<◌, ◌≤◌, List, length, Some, slice_get, slice_index, vec_len}
+use Rattle.history_engine.specs.declared.timeline.Timeline.TheInside.{Inside}
+
+-- t is the time of the latest update at v, and 0 where there was none
+pub record IsLatest (vs : List ℕ) (v t : ℕ) : Type 0 where
+  pub made : t ≤ length vs
+  pub here : (s : ℕ) → t ≡ s + 1 → slice_get vs s ≡ Some v
+  pub none_later : (s : ℕ) → t ≤ s → slice_get vs s ≡ Some v → ⊥
+
+-- each vertex's latest time stands in the table, and each update is at one of the vertices
+pub record IsTimeline (t : Inside) : Type 0 where
+  pub latest : (v : ℕ) → v < vec_len t.latest → IsLatest t.vertices.items v (slice_index t.latest.items v)
+  pub inside : (s v : ℕ) → slice_get t.vertices.items s ≡ Some v → v < vec_len t.latest

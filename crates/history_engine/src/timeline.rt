@@ -1,0 +1,96 @@
+//! The times of the updates.
+
+ghost use Rattle.std.specs.Prelude.{◌≡◌, ℕ, ◌+◌, ◌-◌, ◌^◌, ◌<◌, ◌≤◌, [], ◌∷◌, ◌++◌, length, Some, slice_get, slice_index, IfOk, OnOk};
+ghost use Rattle.apsp_model.specs.Command.{latest_at};
+ghost use Rattle.history_engine.specs.Times.{IsLatest};
+
+use apsp_model::Memory;
+use std::alloc::Global;
+use std::marker::Model;
+
+/// The vertex of each update in order of time, and of each vertex the time of its latest update.
+#[derive(Drop)]
+pub(crate) struct Timeline {
+    vertices: Vec<u32>,
+    // By vertex, and 0 where no update was at it.
+    latest: Vec<usize>,
+}
+
+impl Model for Timeline {
+    ghost use Rattle.std.specs.Prelude.{◌-◌, vec_len, vec_capacity};
+    ghost use Rattle.history_engine.specs.Room.{Times};
+
+    ghost Value = { Times };
+
+    ghost use Rattle.history_engine.specs.Times.{IsTimeline};
+
+    ghost view = { λ t. record { size = vec_len t.latest; vertices = t.vertices.items; room = vec_capacity t.vertices - vec_len t.vertices } };
+
+    ghost invariant = { IsTimeline };
+}
+
+impl Timeline {
+    /// No updates of a graph with n vertices.
+    pub(crate) fn new(alloc: Global, n: u32) -> Result<Timeline, Memory>
+        ensures size { IfOk result (λ t. t.size ≡ n) }
+        ensures vertices { IfOk result (λ t. t.vertices ≡ []) }
+    {
+        let latest = Vec::from_elem(alloc, 0, n as usize).map_err(|_| Memory)?;
+        Ok(Timeline {
+            vertices: Vec::new(alloc),
+            latest,
+        })
+    }
+
+    /// The number of updates.
+    pub(crate) fn len(&self) -> usize
+        ensures { result ≡ length self.now.vertices }
+    {
+        self.vertices.len()
+    }
+
+    /// Makes room for one more update.
+    pub(crate) fn reserve(&mut self) -> Result<(), Memory>
+        ensures room { OnOk result (1 ≤ self.new.room) }
+        ensures size { self.new.size ≡ self.old.size }
+        ensures vertices { self.new.vertices ≡ self.old.vertices }
+    {
+        self.vertices.reserve(1).map_err(|_| Memory)
+    }
+
+    /// Takes an update at v down as the latest one. Takes no memory.
+    pub(crate) fn record(&mut self, v: u32)
+        requires inside { v < self.old.size }
+        requires room { 1 ≤ self.old.room }
+        ensures size { self.new.size ≡ self.old.size }
+        ensures vertices { self.new.vertices ≡ self.old.vertices ++ v ∷ [] }
+    {
+        self.vertices.push_reserved(v);
+        self.latest[v as usize] = self.vertices.len();
+    }
+
+    /// The vertex of the cleaning step for a power of 2, where the present update, which is not
+    /// taken down yet, is at v: that of the update so long ago, if none was at it later.
+    pub(crate) fn cleaned(&self, v: u32, power: u32) -> Option<u32>
+        requires inside { v < self.now.size }
+        requires power { power < 64 }
+        ensures { result ≡ latest_at (self.now.vertices ++ v ∷ []) (length self.now.vertices + 1 - 2 ^ power) }
+    {
+        cleaned_vertex(&self.vertices, &self.latest, v, power)
+    }
+}
+
+fn cleaned_vertex(vertices: &[u32], latest: &[usize], v: u32, power: u32) -> Option<u32>
+    requires power { power < 64 }
+    requires times { (w : ℕ) → w < length latest.now → IsLatest vertices.now w (slice_index latest.now w) }
+    requires inside { (s w : ℕ) → slice_get vertices.now s ≡ Some w → w < length latest.now }
+    ensures { result ≡ latest_at (vertices.now ++ v ∷ []) (length vertices.now + 1 - 2 ^ power) }
+{
+    let place = vertices.len().checked_sub(1usize << power)?;
+    let cleaned = vertices[place];
+    if cleaned != v && latest[cleaned as usize] == place + 1 {
+        Some(cleaned)
+    } else {
+        None
+    }
+}

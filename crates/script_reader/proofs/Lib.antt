@@ -1,0 +1,5 @@
+pub mod Splitting
+pub mod Digits
+pub mod Loops
+pub mod Fitting
+pub mod Cutting

@@ -1,0 +1,9 @@
+pub mod Words
+pub mod Numbers
+pub mod Input
+pub mod Refused
+pub mod Edges
+pub mod Meaning
+pub mod Answer
+pub mod Scan
+pub mod Cutter

@@ -1,0 +1,101 @@
+-- The meaning of a line: by cases on its words, the tests in their one order.
+use Rattle.std.specs.Prelude.{ℕ, ◌+◌, Bool, true, false, ◌==◌, ◌&&◌, nat_lt, nat_le, min, if◌then◌else◌, List, [], ◌∷◌, length, Option, Some, None, Result, Ok}
+use Rattle.apsp_model.specs.declared.TheConstants.{MOST_VERTICES}
+use Rattle.graph_store.specs.Making.{no_star}
+use Rattle.script_reader.specs.declared.TheConstants.{MOST_LINE_BYTES}
+use Rattle.script_reader.specs.declared.code.TheConstants.{NO_VERTICES, VERTICES_TWICE, COMMAND, SHAPE, VERTEX, SELF_EDGE, TOO_LONG, NEEDS_LIVE}
+use Rattle.script_reader.specs.declared.Context.{Context}
+use Rattle.script_reader.specs.declared.Command.{Command}
+use Rattle.script_reader.specs.declared.Command.TheVariants as command
+use Rattle.script_reader.specs.declared.Line.{Line}
+use Rattle.script_reader.specs.declared.Line.TheVariants.{Nothing, Vertices, Star, Edge, Cut, Dist, Path, Row, Stats, Age}
+use Rattle.script_reader.specs.declared.Group.TheVariants.{Out}
+use Rattle.script_reader.specs.Words.{words_of, is_comment, command_of}
+use Rattle.script_reader.specs.Refused.{Refusal, refused, ◌>>=◌}
+use Rattle.script_reader.specs.Edges.{number_at, vertex_at, weight_at_word, vertices_at, first_misfit, star_with_groups}
+
+-- commands that stand in blocks, or begin or end one
+abbrev pub is_of_block : Command → Bool
+is_of_block command.Block = true
+is_of_block command.Ask = true
+is_of_block command.End = true
+is_of_block _ = false
+
+-- why a command cannot stand here, whatever its other words are; no mode has blocks yet
+abbrev pub misplaced : Context → Command → Option ℕ
+misplaced context command.Vertices = if context.vertices == 0 then None else Some VERTICES_TWICE
+misplaced context c = if is_of_block c then Some NEEDS_LIVE else (if context.vertices == 0 then Some NO_VERTICES else None)
+
+-- where a command takes so many words behind it, the place of the first word too many, or of the one
+-- that is missing
+abbrev pub misshapen : {A : Type 0} → ℕ → List (List ℕ) → Result A Refusal
+misshapen count arguments = refused SHAPE (min (length arguments) count + 2)
+
+abbrev pub vertices_line : List (List ℕ) → Result Line Refusal
+vertices_line (w ∷ []) = number_at 2 w >>= (λ n. if nat_le 1 n && nat_le n MOST_VERTICES then Ok (Vertices n) else refused VERTEX 2)
+vertices_line arguments = misshapen 1 arguments
+
+-- the star of the first word with the items of the others, unless one of them is a misfit
+abbrev pub star_unless : Option ℕ → ℕ → List ℕ → List (List ℕ) → Result Line Refusal
+star_unless (Some place) n w ws = refused SHAPE place
+star_unless None n w ws = vertex_at n 2 w >>= (λ v. star_with_groups (no_star n v) Out 3 ws >>= (λ s. Ok (Star s)))
+
+abbrev pub star_line : ℕ → List (List ℕ) → Result Line Refusal
+star_line n [] = refused SHAPE 2
+star_line n (w ∷ ws) = star_unless (first_misfit [] 3 ws) n w ws
+
+abbrev pub edge_line : ℕ → List (List ℕ) → Result Line Refusal
+edge_line n (a ∷ b ∷ c ∷ []) =
+    vertex_at n 2 a >>= (λ u.
+    vertex_at n 3 b >>= (λ v.
+    if u == v then refused SELF_EDGE 3 else (weight_at_word 4 c >>= (λ w. Ok (Edge u v w)))))
+edge_line n arguments = misshapen 3 arguments
+
+-- two words, each a vertex
+abbrev pub two_vertices : ℕ → List (List ℕ) → Result (ℕ × ℕ) Refusal
+two_vertices n (a ∷ b ∷ []) = vertex_at n 2 a >>= (λ x. vertex_at n 3 b >>= (λ y. Ok (x, y)))
+two_vertices n arguments = misshapen 2 arguments
+
+abbrev pub cut_line : ℕ → List (List ℕ) → Result Line Refusal
+cut_line n arguments = two_vertices n arguments >>= (λ p. if p.0 == p.1 then refused SELF_EDGE 3 else Ok (Cut p.0 p.1))
+
+abbrev pub row_line : ℕ → List (List ℕ) → Result Line Refusal
+row_line n (a ∷ []) = vertex_at n 2 a >>= (λ x. Ok (Row x))
+row_line n arguments = misshapen 1 arguments
+
+abbrev pub stats_line : List (List ℕ) → Result Line Refusal
+stats_line [] = Ok Stats
+stats_line arguments = misshapen 0 arguments
+
+abbrev pub age_line : ℕ → List (List ℕ) → Result Line Refusal
+age_line n [] = refused SHAPE 2
+age_line n (w ∷ ws) = vertices_at n 2 (w ∷ ws) >>= (λ us. Ok (Age us))
+
+-- the meaning of the words behind a command
+abbrev pub line_with : Command → ℕ → List (List ℕ) → Result Line Refusal
+line_with command.Vertices n arguments = vertices_line arguments
+line_with command.Star n arguments = star_line n arguments
+line_with command.Edge n arguments = edge_line n arguments
+line_with command.Cut n arguments = cut_line n arguments
+line_with command.Dist n arguments = two_vertices n arguments >>= (λ p. Ok (Dist p.0 p.1))
+line_with command.Path n arguments = two_vertices n arguments >>= (λ p. Ok (Path p.0 p.1))
+line_with command.Row n arguments = row_line n arguments
+line_with command.Stats n arguments = stats_line arguments
+line_with command.Age n arguments = age_line n arguments
+line_with _ n arguments = refused NEEDS_LIVE 1
+
+abbrev pub line_unless : Option ℕ → Command → ℕ → List (List ℕ) → Result Line Refusal
+line_unless (Some code) c n arguments = refused code 1
+line_unless None c n arguments = line_with c n arguments
+
+abbrev pub command_line : Context → Option Command → List (List ℕ) → Result Line Refusal
+command_line context None arguments = refused COMMAND 1
+command_line context (Some c) arguments = line_unless (misplaced context c) c context.vertices arguments
+
+abbrev pub line_of_words : Context → List (List ℕ) → Result Line Refusal
+line_of_words context [] = Ok Nothing
+line_of_words context (w ∷ ws) = if is_comment w then Ok Nothing else command_line context (command_of w) ws
+
+-- the line that the bytes are, or why and where they are refused
+abbrev pub line_of : Context → List ℕ → Result Line Refusal
+line_of context bytes = if nat_lt MOST_LINE_BYTES (length bytes) then refused TOO_LONG 0 else line_of_words context (words_of bytes)

@@ -1,0 +1,200 @@
+//! The lines of each command: the shape of all its words first, and then the words from left to right.
+ghost use Rattle.std.specs.Prelude.{◌≡◌, ℕ, IfOk};
+ghost use Rattle.graph_store.specs.Making.{IsVertexCount};
+ghost use Rattle.script_reader.specs.Scan.{words_left};
+ghost use Rattle.script_reader.specs.Answer.{IsAnswer, IsOne, AreTwo, AreThree, IsRequired, IsAtEnd, IsListAnswer};
+ghost use Rattle.script_reader.specs.Meaning.{vertices_line, star_line, edge_line, cut_line, two_vertices, row_line, stats_line, age_line, line_with};
+ghost use Rattle.script_reader.specs.Edges.{vertices_at};
+
+use crate::groups::{first_misfit, set_groups};
+use crate::items::{number_at, vertex_at, weight_at};
+use crate::scan::{Word, Words};
+use crate::{Command, Line, LineError, VertexList, code, refused};
+use apsp_model::MOST_VERTICES;
+use graph_store::Star;
+use std::alloc::Global;
+
+/// The line of a command, whose words behind it are left. The number of vertices is n.
+pub fn line_with(
+    alloc: Global,
+    command: Command,
+    n: u32,
+    words: Words<'_>,
+) -> Result<Line, LineError>
+    requires place { words.place ≡ 2 }
+    requires count { command ≡ Command.Star → IsVertexCount n }
+    ensures { IsAnswer (line_with command n (words_left words.entry)) result }
+{
+    match command {
+        Command::Vertices => vertices_line(words),
+        Command::Star => star_line(alloc, n, words),
+        Command::Edge => edge_line(n, words),
+        Command::Cut => cut_line(n, words),
+        Command::Dist => {
+            let (x, y) = two_vertices(n, words)?;
+            Ok(Line::Dist { x, y })
+        }
+        Command::Path => {
+            let (x, y) = two_vertices(n, words)?;
+            Ok(Line::Path { x, y })
+        }
+        Command::Row => row_line(n, words),
+        Command::Stats => stats_line(words),
+        Command::Age => age_line(alloc, n, words),
+        Command::Block | Command::Ask | Command::End => Err(refused(code::NEEDS_LIVE, 1)),
+    }
+}
+
+fn vertices_line(words: Words<'_>) -> Result<Line, LineError>
+    requires { words.place ≡ 2 }
+    ensures { IsAnswer (vertices_line (words_left words.entry)) result }
+{
+    let word = one(words)?;
+    let n = number_at(word.place, word.bytes)?;
+    if n < 1 || n > u64::from(MOST_VERTICES) {
+        return Err(refused(code::VERTEX, word.place));
+    }
+    Ok(Line::Vertices(n as u32))
+}
+
+fn star_line(alloc: Global, n: u32, mut words: Words<'_>) -> Result<Line, LineError>
+    requires place { words.place ≡ 2 }
+    requires count { IsVertexCount n }
+    ensures { IsAnswer (star_line n (words_left words.entry)) result }
+{
+    let vertex = required(&mut words)?;
+    if let Some(place) = first_misfit(words) {
+        return Err(refused(code::SHAPE, place));
+    }
+    let v = vertex_at(n, vertex)?;
+    let mut star = Star::new(alloc, n, v).map_err(|_| LineError::Memory)?;
+    set_groups(&mut star, words)?;
+    Ok(Line::Star(star))
+}
+
+fn edge_line(n: u32, words: Words<'_>) -> Result<Line, LineError>
+    requires { words.place ≡ 2 }
+    ensures { IsAnswer (edge_line n (words_left words.entry)) result }
+{
+    let (from, to, weight) = three(words)?;
+    let u = vertex_at(n, from)?;
+    let v = vertex_at(n, to)?;
+    if u == v {
+        return Err(refused(code::SELF_EDGE, to.place));
+    }
+    let w = weight_at(weight)?;
+    Ok(Line::Edge { u, v, w })
+}
+
+fn cut_line(n: u32, words: Words<'_>) -> Result<Line, LineError>
+    requires { words.place ≡ 2 }
+    ensures { IsAnswer (cut_line n (words_left words.entry)) result }
+{
+    let (u, v) = two_vertices(n, words)?;
+    if u == v {
+        return Err(refused(code::SELF_EDGE, words.place + 1));
+    }
+    Ok(Line::Cut { u, v })
+}
+
+fn two_vertices(n: u32, words: Words<'_>) -> Result<(u32, u32), LineError>
+    requires { words.place ≡ 2 }
+    ensures { IsAnswer (two_vertices n (words_left words.entry)) result }
+{
+    let (first, second) = two(words)?;
+    let x = vertex_at(n, first)?;
+    let y = vertex_at(n, second)?;
+    Ok((x, y))
+}
+
+fn row_line(n: u32, words: Words<'_>) -> Result<Line, LineError>
+    requires { words.place ≡ 2 }
+    ensures { IsAnswer (row_line n (words_left words.entry)) result }
+{
+    let word = one(words)?;
+    let x = vertex_at(n, word)?;
+    Ok(Line::Row { x })
+}
+
+fn stats_line(words: Words<'_>) -> Result<Line, LineError>
+    requires { words.place ≡ 2 }
+    ensures { IsAnswer (stats_line (words_left words.entry)) result }
+{
+    at_end(words)?;
+    Ok(Line::Stats)
+}
+
+fn age_line(alloc: Global, n: u32, words: Words<'_>) -> Result<Line, LineError>
+    requires { words.place ≡ 2 }
+    ensures { IsAnswer (age_line n (words_left words.entry)) result }
+{
+    let place = words.place;
+    let items = vertices_at(alloc, n, words)?;
+    if items.is_empty() {
+        return Err(refused(code::SHAPE, place));
+    }
+    Ok(Line::Age(VertexList { items }))
+}
+
+/// The vertices that the words name.
+fn vertices_at(alloc: Global, n: u32, words: Words<'_>) -> Result<Vec<u32>, LineError>
+    ensures { IsListAnswer (vertices_at n words.entry.place (words_left words.entry)) result }
+{
+    let mut items = Vec::new(alloc);
+    for word in words {
+        let vertex = vertex_at(n, word)?;
+        items.push(vertex).map_err(|_| LineError::Memory)?;
+    }
+    Ok(items)
+}
+
+/// The word alone that is left.
+fn one(mut words: Words<'_>) -> Result<Word<'_>, LineError>
+    ensures { IsOne words.entry result }
+{
+    let first = required(&mut words)?;
+    at_end(words)?;
+    Ok(first)
+}
+
+/// The two words that are left.
+fn two(mut words: Words<'_>) -> Result<(Word<'_>, Word<'_>), LineError>
+    ensures { AreTwo words.entry result }
+{
+    let first = required(&mut words)?;
+    let second = required(&mut words)?;
+    at_end(words)?;
+    Ok((first, second))
+}
+
+/// The three words that are left.
+fn three(mut words: Words<'_>) -> Result<(Word<'_>, Word<'_>, Word<'_>), LineError>
+    ensures { AreThree words.entry result }
+{
+    let first = required(&mut words)?;
+    let second = required(&mut words)?;
+    let third = required(&mut words)?;
+    at_end(words)?;
+    Ok((first, second, third))
+}
+
+/// The next word, which has to stand.
+fn required<'a>(words: &mut Words<'a>) -> Result<Word<'a>, LineError>
+    ensures { IsRequired words.old result words.new }
+{
+    let place = words.place;
+    match words.next() {
+        Some(word) => Ok(word),
+        None => Err(refused(code::SHAPE, place)),
+    }
+}
+
+/// No further word may stand.
+fn at_end(mut words: Words<'_>) -> Result<(), LineError>
+    ensures { IsAtEnd words.entry result }
+{
+    match words.next() {
+        Some(word) => Err(refused(code::SHAPE, word.place)),
+        None => Ok(()),
+    }
+}
