@@ -6,7 +6,7 @@ use Rattle.std.proofs.lemmas.Bool.{cases_Bool, cases_eq, cases_lt, or_cases, or_
 use Rattle.std.proofs.lemmas.Nat.{pow-add, pow_pos, one_shl}
 use Rattle.std.proofs.lemmas.Option.{slice_get_within, none-some, same_Some}
 use Rattle.apsp_model.specs.Command.{latest_at, cleaned, cleaned_from}
-use Rattle.history_engine.specs.Times.{IsLatest}
+use Rattle.history_engine.specs.Times.{IsLatest, left_from}
 
 any_from : (vs : List ℕ) (k s v : ℕ) → k ≤ s → slice_get vs s ≡ Some v → list_any (λ later. later == v) (drop k vs) ≡ true
 any_from [] k s v l at = absurd (none-some v at)
@@ -105,10 +105,6 @@ pub latest_none : (v : ℕ) → IsLatest [] v 0
 latest_none v = record { made = omega arith; here = λ s e. absurd (omega (arith, e)); none_later = λ s l at. none-some v at }
 
 -- ---- the powers of 2 from one on
-
--- the vertices of the powers from number i on
-abbrev pub left_from : List ℕ → ℕ → List ℕ
-left_from vs i = cleaned_from vs i (length vs - i)
 
 plus_one : (n : ℕ) → suc n ≡ n + 1
 plus_one n = omega arith

@@ -14,7 +14,16 @@ use Rattle.fixup_math.proofs.Births.{IsBook}
 use Rattle.fixup_math.proofs.Counting.{in_cons, in_nil, head_in, tail_in, count_same}
 use Rattle.history_engine.specs.Seen.{Seen, moment_seen, IsSame}
 use Rattle.history_engine.specs.Advance.{AdvanceByStar, steps_of_star}
+use Rattle.history_engine.specs.Lawful.{IsLawful, AreLawful}
+use Rattle.history_engine.specs.Stepping.{IsStepDone, IsUnderWay}
 use Rattle.history_engine.proofs.Moments.{same_chain, star_on}
+
+-- what is lawful is a book of the mathematics of settling, and the other way round
+pub to_book : (g : Graph) (m : Moment) → IsLawful g m → IsBook g m
+to_book g m l = record { closed = l.closed; singles = l.singles; marked_kept = l.marked_kept; kept = l.kept; single_births = l.single_births; least = l.least }
+
+pub from_book : (g : Graph) (m : Moment) → IsBook g m → IsLawful g m
+from_book g m b = record { closed = b.closed; singles = b.singles; marked_kept = b.marked_kept; kept = b.kept; single_births = b.single_births; least = b.least }
 
 -- a book stays one where the moment says the same
 pub book_on : (g : Graph) (m n : Moment) → IsSame m n → IsBook g m → IsBook g n
@@ -95,27 +104,6 @@ paths_are k ks once = record {
 
 -- ---- one step, and steps behind each other
 
--- the kept paths after a star step at v that left the graph g, with how many were formed and removed
-pub record IsStepDone (v : ℕ) (g : Graph) (k : ℕ) (before after : List KeptPath) (formed removed : ℕ) : Type 0 where
-  pub says : IsSame (moment_in (k + 1) after) (after_star (moment_in k before) v g)
-  pub book : IsBook g (moment_in (k + 1) after)
-  pub weights : (p : KeptPath) → Contains after p → p.weight ≡ weight_of g p.list
-  pub once : IsOncePerList after
-  pub removed_is : CountIs (λ p. (moment_in k before).kept p × IsWithEdge p × Contains p v) removed
-  pub formed_is : (a b : ℕ) → PathsAre (moment_in k before) b → PathsAre (moment_in (k + 1) after) a → formed + b ≡ a + removed
-
--- between two steps of the update by the star s: the steps made so far, and the vertices that are still to be cleaned
-pub record IsUnderWay (e : Seen) (s : Star) (g : Graph) (left : List ℕ) (steps formed removed : ℕ) (paths : List KeptPath) : Type 0 where
-  pub made : List Step
-  pub rest : with_cleaning left g made ≡ steps_of_star e s
-  pub says : IsSame (moment_in steps paths) (after_steps (moment_seen e) made)
-  pub steps_is : steps ≡ e.steps + length made
-  pub removed_is : RemovedIs (moment_seen e) made removed
-  pub formed_is : (a b : ℕ) → PathsAre (moment_seen e) b → PathsAre (moment_in steps paths) a → formed + b ≡ a + removed
-  pub book : IsBook g (moment_in steps paths)
-  pub weights : (p : KeptPath) → Contains paths p → p.weight ≡ weight_of g p.list
-  pub once : IsOncePerList paths
-
 -- the update's own step
 pub first_step : (e : Seen) (s : Star) (g : Graph) (formed removed : ℕ) (paths : List KeptPath) → g ≡ star_of e.graph s → IsStepDone s.vertex g e.steps e.paths paths formed removed → IsUnderWay e s g (if e.smooth then cleaned (e.vertices ++ s.vertex ∷ []) else []) (e.steps + 1) formed removed paths
 first_step e s g formed removed paths is done = record {
@@ -125,9 +113,7 @@ first_step e s g formed removed paths is done = record {
   steps_is = refl;
   removed_is = (0, removed, refl, done.removed_is, omega arith);
   formed_is = done.formed_is;
-  book = done.book;
-  weights = done.weights;
-  once = done.once;
+  paths = done.paths;
 }
 
 -- one cleaning step more
@@ -140,12 +126,10 @@ cleaning_step e s g v left steps formed removed paths more_formed more_removed a
   removed_is = (removed, more_removed, w.removed_is, count_same (λ p. (moment_in steps paths).kept p × IsWithEdge p × Contains p v) (λ p. (after_steps (moment_seen e) w.made).kept p × IsWithEdge p × Contains p v) more_removed (λ p. (λ h. ((w.says.kept p).0 h.0, h.1, h.2), λ h. ((w.says.kept p).1 h.0, h.1, h.2))) done.removed_is, refl);
   formed_is = λ a b at_first at_last.
       let now : ℕ = length (edge_lists paths) in
-      let one : formed + b ≡ now + removed = w.formed_is now b at_first (paths_are steps paths w.once) in
-      let two : more_formed + now ≡ a + more_removed = done.formed_is a now (paths_are steps paths w.once) at_last in
+      let one : formed + b ≡ now + removed = w.formed_is now b at_first (paths_are steps paths w.paths.once) in
+      let two : more_formed + now ≡ a + more_removed = done.formed_is a now (paths_are steps paths w.paths.once) at_last in
       omega arith;
-  book = done.book;
-  weights = done.weights;
-  once = done.once;
+  paths = done.paths;
 }
 
 -- what is seen once no vertex is left
@@ -160,11 +144,11 @@ update_done e s g steps formed removed paths once is w = record {
     before = length (edge_lists e.paths);
     after = length (edge_lists paths);
     paths_before = paths_are e.steps e.paths once;
-    paths_after = count_same (λ p. (moment_in steps paths).kept p × IsWithEdge p) (λ p. (after_steps (moment_seen e) (steps_of_star e s)).kept p × IsWithEdge p) (length (edge_lists paths)) (λ p. (λ h. ((says.kept p).0 h.0, h.1), λ h. ((says.kept p).1 h.0, h.1))) (paths_are steps paths w.once);
+    paths_after = count_same (λ p. (moment_in steps paths).kept p × IsWithEdge p) (λ p. (after_steps (moment_seen e) (steps_of_star e s)).kept p × IsWithEdge p) (length (edge_lists paths)) (λ p. (λ h. ((says.kept p).0 h.0, h.1), λ h. ((says.kept p).1 h.0, h.1))) (paths_are steps paths w.paths.once);
     removed_is = subst (λ (made : List Step). RemovedIs (moment_seen e) made removed) w.rest w.removed_is;
-    formed_is = w.formed_is (length (edge_lists paths)) (length (edge_lists e.paths)) (paths_are e.steps e.paths once) (paths_are steps paths w.once);
+    formed_is = w.formed_is (length (edge_lists paths)) (length (edge_lists e.paths)) (paths_are e.steps e.paths once) (paths_are steps paths w.paths.once);
   };
-  book = record { weights = w.weights; once = w.once; says = says };
+  book = record { weights = w.paths.weights; once = w.paths.once; says = says };
   not_spent = refl;
 }
   where

@@ -15,7 +15,8 @@ use Rattle.fixup_math.proofs.Counting.{head_in, tail_in, count_same}
 use Rattle.fixup_math.proofs.Start.{IsCleaned as IsCleanedOf, away, vertex_of_one}
 use Rattle.history_engine.specs.Seen.{IsSame}
 use Rattle.history_engine.proofs.Moments.{same_turned}
-use Rattle.history_engine.proofs.Stepping.{book_on, IsStepDone}
+use Rattle.history_engine.specs.Stepping.{IsStepDone}
+use Rattle.history_engine.proofs.Stepping.{book_on, from_book}
 
 -- a walk that avoids v has its weight without the edges at v
 apart_of : (v x y : ℕ) (p : List ℕ) → Avoids (x ∷ y ∷ p) v → touches v (x, y) ≡ false
@@ -134,9 +135,11 @@ module _ (v k : ℕ) (gb g : Graph) (before : List KeptPath) (same_count : gb.ve
       pub step_done : IsStepDone v g k before after formed removed
       step_done = record {
         says = says;
-        book = book_on g (after_star m v g) (moment_in (k + 1) after) (same_turned (moment_in (k + 1) after) (after_star m v g) says) (book_after m v gb g same_count same_away book);
-        weights = settled.weights;
-        once = once;
+        paths = record {
+          lawful = from_book g (moment_in (k + 1) after) (book_on g (after_star m v g) (moment_in (k + 1) after) (same_turned (moment_in (k + 1) after) (after_star m v g) says) (book_after m v gb g same_count same_away book));
+          weights = settled.weights;
+          once = once;
+        };
         removed_is = removed_is;
         formed_is = λ a b at_first at_last. formed_is m v gb g same_count same_away book b a removed formed at_first removed_is
             (count_same (λ p. IsKeptIn after p × IsWithEdge p) (λ p. (after_star m v g).kept p × IsWithEdge p) a (λ p. (λ h. ((made.kept p).0 h.0, h.1), λ h. ((made.kept p).1 h.0, h.1))) at_last)

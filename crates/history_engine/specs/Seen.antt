@@ -1,10 +1,13 @@
 -- What contracts see of an engine.
-use Rattle.std.specs.Prelude.{◌≡◌, ℕ, ◌↔◌, Bool, List, Contains}
-use Rattle.apsp_model.specs.Graph.{Graph}
+use Rattle.std.specs.Prelude.{◌≡◌, ℕ, ◌↔◌, Bool, List, Contains, refl}
+use Rattle.std.specs.Coded.{Coded, code_by, coded×, coded_ℕ, coded_bool, coded_list}
+use Rattle.apsp_model.specs.Graph.{Graph, graph_code}
 use Rattle.apsp_model.specs.Walk.{weight_of}
 use Rattle.apsp_model.specs.Kept.{Moment}
 use Rattle.apsp_model.specs.Paths.{KeptPath, IsOncePerList, moment_in}
 
+-- the opening number of vertices; the graph; whether smoothing is on; the vertex of each update; the number of steps;
+-- what the latest update formed and removed; whether the engine is spent; and the kept paths
 pub record Seen : Type 0 where
   pub opening : ℕ
   pub graph : Graph
@@ -15,6 +18,18 @@ pub record Seen : Type 0 where
   pub removed : ℕ
   pub spent : Bool
   pub paths : List KeptPath
+
+abbrev pub path_code : Coded KeptPath
+path_code =
+    code_by (List ℕ × (ℕ × (Bool × ℕ))) (coded× (coded_list coded_ℕ) (coded× coded_ℕ (coded× coded_bool coded_ℕ)))
+    (λ k. (k.list, (k.weight, (k.historical, k.birth)))) (λ t. record { list = t.0; weight = t.1.0; historical = t.1.1.0; birth = t.1.1.1 }) (λ _. refl)
+
+abbrev pub seen_code : Coded Seen
+seen_code =
+    code_by (ℕ × (Graph × (Bool × (List ℕ × (ℕ × (ℕ × (ℕ × (Bool × List KeptPath)))))))) (coded× coded_ℕ (coded× graph_code (coded× coded_bool (coded× (coded_list coded_ℕ) (coded× coded_ℕ (coded× coded_ℕ (coded× coded_ℕ (coded× coded_bool (coded_list path_code)))))))))
+    (λ e. (e.opening, (e.graph, (e.smooth, (e.vertices, (e.steps, (e.formed, (e.removed, (e.spent, e.paths)))))))))
+    (λ t. record { opening = t.0; graph = t.1.0; smooth = t.1.1.0; vertices = t.1.1.1.0; steps = t.1.1.1.1.0; formed = t.1.1.1.1.1.0; removed = t.1.1.1.1.1.1.0; spent = t.1.1.1.1.1.1.1.0; paths = t.1.1.1.1.1.1.1.1 })
+    (λ _. refl)
 
 -- what is seen, as a moment
 abbrev pub moment_seen : Seen → Moment

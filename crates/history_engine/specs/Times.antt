@@ -1,5 +1,6 @@
 -- The times of the updates.
-use Rattle.std.specs.Prelude.{◌≡◌, ℕ, ◌+◌, ◌<◌, ◌≤◌, List, length, Some, slice_get, slice_index, vec_len}
+use Rattle.std.specs.Prelude.{◌≡◌, ℕ, ◌+◌, ◌-◌, ◌<◌, ◌≤◌, List, length, Some, slice_get, slice_index, vec_len}
+use Rattle.apsp_model.specs.Command.{cleaned_from}
 use Rattle.history_engine.specs.declared.timeline.Timeline.TheInside.{Inside}
 
 -- t is the time of the latest update at v, and 0 where there was none
@@ -12,3 +13,7 @@ pub record IsLatest (vs : List ℕ) (v t : ℕ) : Type 0 where
 pub record IsTimeline (t : Inside) : Type 0 where
   pub latest : (v : ℕ) → v < vec_len t.latest → IsLatest t.vertices.items v (slice_index t.latest.items v)
   pub inside : (s v : ℕ) → slice_get t.vertices.items s ≡ Some v → v < vec_len t.latest
+
+-- the vertices of the cleaning steps for the powers of 2 from number i on, behind the update of time length vs
+abbrev pub left_from : List ℕ → ℕ → List ℕ
+left_from vs i = cleaned_from vs i (length vs - i)

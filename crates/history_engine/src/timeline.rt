@@ -1,6 +1,6 @@
 //! The times of the updates.
 
-ghost use Rattle.std.specs.Prelude.{◌≡◌, ℕ, ◌+◌, ◌-◌, ◌^◌, ◌<◌, ◌≤◌, [], ◌∷◌, ◌++◌, length, Some, slice_get, slice_index, IfOk, OnOk};
+ghost use Rattle.std.specs.Prelude.{◌≡◌, ℕ, ◌+◌, ◌-◌, ◌^◌, ◌<◌, ◌≤◌, [], ◌∷◌, ◌++◌, length, Some, slice_get, slice_index, IfOk, IfSome, OnOk};
 ghost use Rattle.apsp_model.specs.Command.{latest_at};
 ghost use Rattle.history_engine.specs.Times.{IsLatest};
 
@@ -74,7 +74,8 @@ impl Timeline {
     pub(crate) fn cleaned(&self, v: u32, power: u32) -> Option<u32>
         requires inside { v < self.now.size }
         requires power { power < 64 }
-        ensures { result ≡ latest_at (self.now.vertices ++ v ∷ []) (length self.now.vertices + 1 - 2 ^ power) }
+        ensures cleaned { result ≡ latest_at (self.now.vertices ++ v ∷ []) (length self.now.vertices + 1 - 2 ^ power) }
+        ensures inside { IfSome result (λ w. w < self.now.size) }
     {
         cleaned_vertex(&self.vertices, &self.latest, v, power)
     }
@@ -84,7 +85,8 @@ fn cleaned_vertex(vertices: &[u32], latest: &[usize], v: u32, power: u32) -> Opt
     requires power { power < 64 }
     requires times { (w : ℕ) → w < length latest.now → IsLatest vertices.now w (slice_index latest.now w) }
     requires inside { (s w : ℕ) → slice_get vertices.now s ≡ Some w → w < length latest.now }
-    ensures { result ≡ latest_at (vertices.now ++ v ∷ []) (length vertices.now + 1 - 2 ^ power) }
+    ensures cleaned { result ≡ latest_at (vertices.now ++ v ∷ []) (length vertices.now + 1 - 2 ^ power) }
+    ensures inside { IfSome result (λ w. w < length latest.now) }
 {
     let place = vertices.len().checked_sub(1usize << power)?;
     let cleaned = vertices[place];

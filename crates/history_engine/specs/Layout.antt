@@ -1,0 +1,28 @@
+-- What an engine's fields say, and what holds of them.
+use Rattle.std.specs.Prelude.{◌≡◌, ℕ, ◌*◌, ◌^◌, ◌≤◌, false, length}
+use Rattle.path_book.specs.Book.{kept_paths}
+use Rattle.history_engine.specs.declared.engine.Engine.TheInside.{Inside}
+use Rattle.history_engine.specs.Seen.{Seen}
+use Rattle.history_engine.specs.Lawful.{AreLawful}
+
+abbrev pub seen_of : Inside → Seen
+seen_of e = record {
+  opening = e.graph.vertices;
+  graph = e.graph;
+  smooth = e.smooth;
+  vertices = e.timeline.vertices;
+  steps = e.progress.steps;
+  formed = e.progress.formed;
+  removed = e.progress.removed;
+  spent = e.spent;
+  paths = kept_paths e.book;
+}
+
+-- the parts have one number of vertices, an update makes at most 41 steps, and the paths are lawful until memory ran out
+pub record IsEngine (e : Inside) : Type 0 where
+  pub star_size : e.before.vertices ≡ e.graph.vertices
+  pub book_size : e.book.arena.vertices ≡ e.graph.vertices
+  pub timeline_size : e.timeline.size ≡ e.graph.vertices
+  pub few_updates : length e.timeline.vertices ≤ 2 ^ 40
+  pub few_steps : e.progress.steps ≤ 41 * length e.timeline.vertices
+  pub paths : e.spent ≡ false → AreLawful e.graph e.progress.steps (kept_paths e.book)

@@ -1,0 +1,20 @@
+-- What contracts see of the least path that an engine names.
+use Rattle.std.specs.Prelude.{◌≡◌, ℕ}
+use Rattle.apsp_model.specs.Walk.{weight_of as walk_weight}
+use Rattle.apsp_model.specs.Least.{IsLeast}
+use Rattle.path_arena.specs.Arena.{IsLive, list_of, weight_of}
+use Rattle.path_book.specs.Book.{Book, IsBook, IsLeastKept, kept_paths}
+use Rattle.history_engine.specs.Seen.{Seen}
+
+-- the book that it stands in, and its id
+pub record LeastPath : Type 0 where
+  pub book : Book
+  pub id : ℕ
+
+-- the book is the engine's; the id is that of its least kept path of the pair, which is the least walk of the graph, with its weight
+pub record IsLeastPath (e : Seen) (x y : ℕ) (l : LeastPath) : Type 0 where
+  pub book : kept_paths l.book ≡ e.paths
+  pub lawful : IsBook l.book
+  pub first : IsLeastKept l.book x y l.id
+  pub walk : IsLeast e.graph x y (list_of l.book.arena l.id)
+  pub weight : weight_of l.book.arena l.id ≡ walk_weight e.graph (list_of l.book.arena l.id)

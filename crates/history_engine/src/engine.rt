@@ -1,0 +1,262 @@
+//! The engine.
+
+ghost use Rattle.std.specs.Prelude.{◌≡◌, ◌<◌, ◌≤◌, ◌^◌, ◌↔◌, ℕ, List, length, true, false, IfOk, OnOk, MatchOption, All, Err};
+ghost use Rattle.apsp_model.specs.Command.{Command, Update};
+ghost use Rattle.apsp_model.specs.Counts.{CountsAre};
+ghost use Rattle.apsp_model.specs.Kept.{IsKept, HasBirth};
+ghost use Rattle.apsp_model.specs.Least.{HasNoWalk};
+ghost use Rattle.apsp_model.specs.Paths.{IsKeptIn, HasBirthIn};
+ghost use Rattle.graph_store.specs.Making.{IsVertexCount, IsMakeAnswer};
+ghost use Rattle.path_book.specs.Book.{IsBook, kept_paths};
+ghost use Rattle.history_engine.specs.Advance.{Advance, Stands};
+ghost use Rattle.history_engine.specs.Answers.{IsChange, IsSpentBy, AreCounts, numbers};
+ghost use Rattle.history_engine.specs.Least.{IsLeastPath};
+ghost use Rattle.history_engine.specs.declared.engine.EngineError.TheVariants as error;
+
+use crate::least::Least;
+use crate::update::{Progress, update};
+use crate::timeline::Timeline;
+use apsp_io::Gate;
+use apsp_model::Memory;
+use graph_store::{Graph, MakeError, Star};
+use path_book::Book;
+use std::alloc::Global;
+use std::marker::{Model, Sync};
+use std::thread::Threads;
+
+/// Why an update was not made.
+#[derive(Clone, Copy, Debug, PartialEq, Eq)]
+pub enum EngineError {
+    /// Memory ran out in an earlier update.
+    Spent = 1,
+    /// Want of memory.
+    Memory,
+}
+
+/// What an update did.
+#[derive(Clone, Copy, Debug, PartialEq, Eq)]
+pub struct Change {
+    /// Which update it was, from 1 on.
+    pub number: u64,
+    /// The number of steps that it made: one at its vertex, and the cleaning steps.
+    pub steps: u64,
+    /// The number of paths that its steps added.
+    pub formed: u64,
+    /// The number of paths that its steps took away.
+    pub removed: u64,
+}
+
+/// How much an engine did and keeps.
+#[derive(Clone, Copy, Debug, PartialEq, Eq)]
+pub struct Counts {
+    /// The number of updates.
+    pub updates: u64,
+    /// The number of steps that they made.
+    pub steps: u64,
+    /// The number of kept paths with an edge.
+    pub paths: u64,
+    /// The number of historical paths with an edge.
+    pub historical: u64,
+    /// The number of paths that the latest update added, and 0 before the first.
+    pub formed: u64,
+    /// The number of paths that the latest update took away, and 0 before the first.
+    pub removed: u64,
+}
+
+/// A graph that changes one star at a time, with all its locally historical paths: the simple walks
+/// all of whose proper parts have been least walks at least once since the latest step at one of
+/// their vertices.
+#[derive(Drop)]
+pub struct Engine {
+    alloc: Global,
+    graph: Graph,
+    // Room for the star that an update replaces.
+    before: Star,
+    book: Book,
+    timeline: Timeline,
+    smooth: bool,
+    progress: Progress,
+    spent: bool,
+}
+
+impl Model for Engine {
+    ghost use Rattle.history_engine.specs.Seen.{Seen, seen_code};
+
+    ghost Value = { Seen };
+
+    ghost coded = { seen_code };
+
+    ghost use Rattle.history_engine.specs.Layout.{seen_of, IsEngine};
+
+    ghost view = { seen_of };
+
+    ghost invariant = { IsEngine };
+}
+
+impl Engine {
+    /// So many vertices, no edges, and no updates. With smoothing each update makes cleaning steps.
+    /// O(n²).
+    pub fn new(alloc: Global, n: u32, smooth: bool) -> Result<Engine, MakeError>
+        ensures opening { IfOk result (λ e. e.opening ≡ n) }
+        ensures smooth { IfOk result (λ e. e.smooth ≡ smooth) }
+        ensures stands { IfOk result (λ e. Stands e []) }
+        ensures answer { IsMakeAnswer n result }
+    {
+        let graph = Graph::new(alloc, n)?;
+        Ok(Engine {
+            alloc,
+            graph,
+            before: Star::new(alloc, n, 0).map_err(|_| MakeError::Memory)?,
+            book: Book::new(alloc, n).map_err(|_| MakeError::Memory)?,
+            timeline: Timeline::new(alloc, n).map_err(|_| MakeError::Memory)?,
+            smooth,
+            progress: Progress {
+                steps: 0,
+                formed: 0,
+                removed: 0,
+            },
+            spent: false,
+        })
+    }
+
+    /// Replaces all edges at the star's vertex by those of the star, and brings the kept paths up to
+    /// date. The number of workers has no effect yet.
+    ///
+    /// `Spent` changes nothing. After `Memory` the graph and the counts are those from before, and
+    /// the engine is spent.
+    ///
+    /// Time: for each step O(n²) for the heads of the pairs, and for each path that it takes away or
+    /// adds the logarithm of the paths of a pair.
+    pub fn star<R: Threads + Sync, G: Gate>(
+        &mut self,
+        rt: &R,
+        star: &Star,
+        workers: u32,
+        gate: &G,
+    ) -> Result<Change, EngineError>
+        requires same { star.now.vertices ≡ self.old.opening }
+        requires few { length self.old.vertices < 2 ^ 40 }
+        requires some_workers { 1 ≤ workers }
+        requires most_workers { workers ≤ 64 }
+        ensures advance { OnOk result (Advance self.old (Update star.now) self.new) }
+        ensures change { IfOk result (IsChange self.old self.new) }
+        ensures spent { (result ≡ Err error.Spent) ↔ (self.old.spent ≡ true) }
+        ensures unchanged { result ≡ Err error.Spent → self.new ≡ self.old }
+        ensures memory { result ≡ Err error.Memory → IsSpentBy self.old self.new }
+    {
+        if self.spent {
+            return Err(EngineError::Spent);
+        }
+        let v = star.vertex();
+        self.graph.star_into(v, &mut self.before);
+        self.graph.apply(star);
+        let made = update(
+            rt,
+            self.alloc,
+            &mut self.book,
+            &self.graph,
+            &mut self.timeline,
+            self.smooth,
+            v,
+            self.progress.steps,
+            workers,
+            gate,
+        );
+        match made {
+            Ok(progress) => {
+                let steps = progress.steps - self.progress.steps;
+                self.timeline.record(v);
+                self.progress = progress;
+                Ok(Change {
+                    number: self.timeline.len() as u64,
+                    steps,
+                    formed: progress.formed,
+                    removed: progress.removed,
+                })
+            }
+            Err(Memory) => {
+                self.graph.apply(&self.before);
+                self.spent = true;
+                Err(EngineError::Memory)
+            }
+        }
+    }
+
+    /// Whether memory ran out in an update. No reader takes memory, and all but `birth` are O(1).
+    pub fn is_spent(&self) -> bool
+        ensures { result ≡ self.now.spent }
+    {
+        self.spent
+    }
+
+    /// The number of vertices.
+    pub fn vertices(&self) -> u32
+        ensures vertices { result ≡ self.now.opening }
+        ensures range { IsVertexCount result }
+    {
+        self.graph.vertices()
+    }
+
+    /// The number of updates.
+    pub fn number(&self) -> u64
+        ensures { result ≡ length self.now.vertices }
+    {
+        self.timeline.len() as u64
+    }
+
+    /// The present graph.
+    pub fn graph(&self) -> &Graph
+        ensures graph { result.now ≡ self.now.graph }
+        ensures same { self.now.graph.vertices ≡ self.now.opening }
+    {
+        &self.graph
+    }
+
+    /// The book of the kept paths.
+    pub fn book(&self) -> &Book
+        requires { self.now.spent ≡ false }
+        ensures paths { kept_paths result.now ≡ self.now.paths }
+        ensures lawful { IsBook result.now }
+    {
+        &self.book
+    }
+
+    /// The least walk from x to y, and none exactly where there is no walk.
+    pub fn least(&self, x: u32, y: u32) -> Option<Least<'_>>
+        requires not_spent { self.now.spent ≡ false }
+        requires from { x < self.now.opening }
+        requires to { y < self.now.opening }
+        ensures { MatchOption result (HasNoWalk self.now.graph x y) (IsLeastPath self.now x y) }
+    {
+        let id = self.book.least(x, y)?;
+        Some(Least::new(&self.book, id))
+    }
+
+    /// How much the engine did and keeps.
+    pub fn counts(&self) -> Counts
+        requires { self.now.spent ≡ false }
+        ensures seen { AreCounts self.now result }
+        ensures counts { (commands : List Command) → Stands self.now commands → CountsAre self.now.opening self.now.smooth commands (numbers result) }
+    {
+        Counts {
+            updates: self.number(),
+            steps: self.progress.steps,
+            paths: self.book.count_paths(),
+            historical: self.book.count_historical(),
+            formed: self.progress.formed,
+            removed: self.progress.removed,
+        }
+    }
+
+    /// The number of the step that added the kept path with these vertices, 0 where it is a single
+    /// vertex, and none exactly where it is not kept. O(n) for each vertex of the list.
+    pub fn birth(&self, list: &[u32]) -> Option<u64>
+        requires not_spent { self.now.spent ≡ false }
+        requires some { 0 < length list.now }
+        requires inside { All (λ v. v < self.now.opening) list.now }
+        ensures seen { MatchOption result (IsKeptIn self.now.paths list.now → ⊥) (HasBirthIn self.now.paths list.now) }
+        ensures birth { (commands : List Command) → Stands self.now commands → MatchOption result (IsKept self.now.opening self.now.smooth commands list.now → ⊥) (HasBirth self.now.opening self.now.smooth commands list.now) }
+    {
+        self.book.birth_of(list)
+    }
+}

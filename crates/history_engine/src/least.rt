@@ -1,0 +1,66 @@
+//! The least path of a pair.
+
+ghost use Rattle.std.specs.Prelude.{◌≡◌};
+ghost use Rattle.apsp_model.specs.Walk.{hops_of};
+ghost use Rattle.path_arena.specs.Arena.{IsLive, list_of, weight_of};
+
+use path_arena::{PathId, Vertices};
+use path_book::Book;
+use std::marker::Model;
+
+/// The least walk of a pair of vertices, as the engine keeps it.
+#[derive(Drop)]
+pub struct Least<'a> {
+    book: &'a Book,
+    id: PathId,
+}
+
+impl<'a> Model for Least<'a> {
+    ghost use Rattle.history_engine.specs.Least.{LeastPath};
+
+    ghost Value = { LeastPath };
+
+    ghost view = { λ l. record { book = l.book.now; id = l.id } };
+
+    ghost use Rattle.path_arena.specs.Arena.{IsLive as IsLiveId};
+
+    ghost invariant = { λ l. IsLiveId l.book.now.arena l.id };
+}
+
+impl<'a> Least<'a> {
+    pub(crate) fn new(book: &'a Book, id: PathId) -> Least<'a>
+        requires { IsLive book.now.arena id }
+        ensures book { result.book ≡ book.now }
+        ensures id { result.id ≡ id }
+    {
+        Least { book, id }
+    }
+
+    /// Its id in the engine's book. O(1), and takes no memory, like the other readers.
+    pub fn id(&self) -> PathId
+        ensures { result ≡ self.now.id }
+    {
+        self.id
+    }
+
+    /// Its weight.
+    pub fn weight(&self) -> u64
+        ensures { result ≡ weight_of self.now.book.arena self.now.id }
+    {
+        self.book.arena().weight(self.id)
+    }
+
+    /// Its number of edges.
+    pub fn hops(&self) -> u32
+        ensures { result ≡ hops_of (list_of self.now.book.arena self.now.id) }
+    {
+        self.book.arena().hops(self.id)
+    }
+
+    /// Its vertices, from the first to the last.
+    pub fn vertices(&self) -> Vertices<'_>
+        ensures { result ≡ list_of self.now.book.arena self.now.id }
+    {
+        self.book.arena().vertices(self.id)
+    }
+}

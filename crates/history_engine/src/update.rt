@@ -1,0 +1,192 @@
+//! The steps of an update: a star step at its vertex, and the cleaning steps behind it.
+
+ghost use Rattle.std.specs.Prelude.{◌≡◌, ◌<◌, ◌≤◌, ◌+◌, ◌^◌, [], ◌∷◌, ◌++◌, length, IfOk, OnOk};
+ghost use Rattle.apsp_model.specs.Star.{Star};
+ghost use Rattle.apsp_model.specs.Command.{cleaned};
+ghost use Rattle.path_book.specs.Book.{IsBook, kept_paths};
+ghost use Rattle.history_engine.specs.Seen.{Seen};
+ghost use Rattle.history_engine.specs.Lawful.{AreLawful, IsStepReady};
+ghost use Rattle.history_engine.specs.Stepping.{IsStepDone, IsUnderWay, IsBegun};
+ghost use Rattle.history_engine.specs.Times.{left_from};
+
+use crate::timeline::Timeline;
+use apsp_io::Gate;
+use apsp_model::Memory;
+use cleanup_tasks::{forget_all, victims};
+use fixup::settle;
+use graph_store::Graph;
+use path_book::Book;
+use std::alloc::Global;
+use std::marker::Sync;
+use std::thread::Threads;
+
+/// An update forgets the past at 2⁰, 2¹, .. updates ago, and there are fewer than 2⁴⁰ of them.
+const POWERS: u32 = 40;
+
+/// How many paths a step added and took away.
+#[derive(Clone, Copy, Debug, PartialEq, Eq)]
+pub(crate) struct Turnover {
+    pub(crate) formed: u64,
+    pub(crate) removed: u64,
+}
+
+/// How many steps there were, and how many paths those of the latest update added and took away.
+#[derive(Clone, Copy, Debug, PartialEq, Eq)]
+pub(crate) struct Progress {
+    pub(crate) steps: u64,
+    pub(crate) formed: u64,
+    pub(crate) removed: u64,
+}
+
+/// Makes the steps of an update at v, whose star is in the graph already.
+pub(crate) fn update<R: Threads + Sync, G: Gate>(
+    rt: &R,
+    alloc: Global,
+    book: &mut Book,
+    graph: &Graph,
+    timeline: &mut Timeline,
+    smooth: bool,
+    v: u32,
+    steps: u64,
+    workers: u32,
+    gate: &G,
+) -> Result<Progress, Memory>
+    requires ready { IsStepReady v graph.now steps (kept_paths book.old) }
+    requires book_size { book.old.arena.vertices ≡ graph.now.vertices }
+    requires timeline_size { timeline.old.size ≡ graph.now.vertices }
+    requires inside { v < graph.now.vertices }
+    requires few_updates { length timeline.old.vertices < 2 ^ 40 }
+    requires few_steps { steps + 41 < 2 ^ 64 }
+    requires some_workers { 1 ≤ workers }
+    requires most_workers { workers ≤ 64 }
+    ensures done { IfOk result (λ p. (e : Seen) (s : Star) → IsBegun e s graph.now smooth timeline.old.vertices v steps (kept_paths book.old) → IsUnderWay e s graph.now [] p.steps p.formed p.removed (kept_paths book.new)) }
+    ensures steps_few { IfOk result (λ p. p.steps ≤ steps + 41) }
+    ensures steps_more { IfOk result (λ p. steps ≤ p.steps) }
+    ensures book_size { book.new.arena.vertices ≡ book.old.arena.vertices }
+    ensures timeline { timeline.new.vertices ≡ timeline.old.vertices }
+    ensures timeline_size { timeline.new.size ≡ timeline.old.size }
+    ensures room { OnOk result (1 ≤ timeline.new.room) }
+{
+    timeline.reserve()?;
+    let first = step(rt, alloc, book, graph, v, steps, workers, gate)?;
+    let done = Progress {
+        steps: steps + 1,
+        formed: first.formed,
+        removed: first.removed,
+    };
+    if smooth {
+        clean(rt, alloc, book, graph, timeline, v, done, workers, gate)
+    } else {
+        Ok(done)
+    }
+}
+
+/// Makes the cleaning steps behind the star step of an update at v.
+fn clean<R: Threads + Sync, G: Gate>(
+    rt: &R,
+    alloc: Global,
+    book: &mut Book,
+    graph: &Graph,
+    timeline: &Timeline,
+    v: u32,
+    done: Progress,
+    workers: u32,
+    gate: &G,
+) -> Result<Progress, Memory>
+    requires paths { AreLawful graph.now done.steps (kept_paths book.old) }
+    requires book_size { book.old.arena.vertices ≡ graph.now.vertices }
+    requires timeline_size { timeline.now.size ≡ graph.now.vertices }
+    requires inside { v < graph.now.vertices }
+    requires few_updates { length timeline.now.vertices < 2 ^ 40 }
+    requires few_steps { done.steps + 40 < 2 ^ 64 }
+    requires few_formed { done.formed ≤ 2 ^ 48 }
+    requires few_removed { done.removed ≤ 2 ^ 48 }
+    requires some_workers { 1 ≤ workers }
+    requires most_workers { workers ≤ 64 }
+    ensures done { IfOk result (λ p. (e : Seen) (s : Star) → IsUnderWay e s graph.now (cleaned (timeline.now.vertices ++ v ∷ [])) done.steps done.formed done.removed (kept_paths book.old) → IsUnderWay e s graph.now [] p.steps p.formed p.removed (kept_paths book.new)) }
+    ensures steps_few { IfOk result (λ p. p.steps ≤ done.steps + 40) }
+    ensures steps_more { IfOk result (λ p. done.steps ≤ p.steps) }
+    ensures book_size { book.new.arena.vertices ≡ book.old.arena.vertices }
+{
+    let mut progress = done;
+    'powers: for power in 0..POWERS {
+        progress = clean_one(rt, alloc, book, graph, timeline, v, power, progress, workers, gate)?;
+    }
+    Ok(progress)
+}
+
+/// Makes the cleaning step for a power of 2, if there is one.
+fn clean_one<R: Threads + Sync, G: Gate>(
+    rt: &R,
+    alloc: Global,
+    book: &mut Book,
+    graph: &Graph,
+    timeline: &Timeline,
+    v: u32,
+    power: u32,
+    done: Progress,
+    workers: u32,
+    gate: &G,
+) -> Result<Progress, Memory>
+    requires paths { AreLawful graph.now done.steps (kept_paths book.old) }
+    requires book_size { book.old.arena.vertices ≡ graph.now.vertices }
+    requires timeline_size { timeline.now.size ≡ graph.now.vertices }
+    requires inside { v < graph.now.vertices }
+    requires power { power < 40 }
+    requires few_steps { done.steps + 1 < 2 ^ 64 }
+    requires few_formed { done.formed ≤ 2 ^ 60 }
+    requires few_removed { done.removed ≤ 2 ^ 60 }
+    requires some_workers { 1 ≤ workers }
+    requires most_workers { workers ≤ 64 }
+    ensures done { IfOk result (λ p. (e : Seen) (s : Star) → IsUnderWay e s graph.now (left_from (timeline.now.vertices ++ v ∷ []) power) done.steps done.formed done.removed (kept_paths book.old) → IsUnderWay e s graph.now (left_from (timeline.now.vertices ++ v ∷ []) (power + 1)) p.steps p.formed p.removed (kept_paths book.new)) }
+    ensures paths { IfOk result (λ p. AreLawful graph.now p.steps (kept_paths book.new)) }
+    ensures steps_few { IfOk result (λ p. p.steps ≤ done.steps + 1) }
+    ensures steps_more { IfOk result (λ p. done.steps ≤ p.steps) }
+    ensures formed_few { IfOk result (λ p. p.formed ≤ done.formed + 2 ^ 48) }
+    ensures removed_few { IfOk result (λ p. p.removed ≤ done.removed + 2 ^ 48) }
+    ensures book_size { book.new.arena.vertices ≡ book.old.arena.vertices }
+{
+    let Some(cleaned) = timeline.cleaned(v, power) else {
+        return Ok(done);
+    };
+    let more = step(rt, alloc, book, graph, cleaned, done.steps, workers, gate)?;
+    Ok(Progress {
+        steps: done.steps + 1,
+        formed: done.formed + more.formed,
+        removed: done.removed + more.removed,
+    })
+}
+
+/// Makes a star step at v, whose star is in the graph already: takes the paths through v away, and
+/// settles what is left.
+fn step<R: Threads + Sync, G: Gate>(
+    rt: &R,
+    alloc: Global,
+    book: &mut Book,
+    graph: &Graph,
+    v: u32,
+    steps: u64,
+    workers: u32,
+    gate: &G,
+) -> Result<Turnover, Memory>
+    requires ready { IsStepReady v graph.now steps (kept_paths book.old) }
+    requires book_size { book.old.arena.vertices ≡ graph.now.vertices }
+    requires inside { v < graph.now.vertices }
+    requires few_steps { steps + 1 < 2 ^ 64 }
+    requires some_workers { 1 ≤ workers }
+    requires most_workers { workers ≤ 64 }
+    ensures done { IfOk result (λ t. IsStepDone v graph.now steps (kept_paths book.old) (kept_paths book.new) t.formed t.removed) }
+    ensures formed_few { IfOk result (λ t. t.formed ≤ 2 ^ 48) }
+    ensures removed_few { IfOk result (λ t. t.removed ≤ 2 ^ 48) }
+    ensures book_size { book.new.arena.vertices ≡ book.old.arena.vertices }
+{
+    let before = book.count_paths();
+    let through = victims(rt, alloc, book, v, workers, gate)?;
+    forget_all(book, &through);
+    let left = book.count_paths();
+    let settled = settle(rt, alloc, book, graph, v, steps + 1, workers, gate)?;
+    Ok(Turnover {
+        formed: settled.formed,
+        removed: before - left,
+    })
+}
