@@ -4,3 +4,4 @@ pub mod Cleaning
 pub mod Steps
 pub mod Updating
 pub mod Reading
+pub mod Existing
