@@ -1,0 +1,110 @@
+"""Runs generated scripts through the built program and prints time, kept paths and memory. See README.md."""
+
+import os
+import random
+import subprocess
+import sys
+import threading
+import time
+
+TOP = os.path.dirname(os.path.dirname(os.path.abspath(__file__)))
+PROGRAM = os.path.join(TOP, "crates", "apsp", "out", "apsp")
+GRIDS = {16: (4, 4), 60: (6, 10), 128: (8, 16)}
+CHANGES = 200
+QUESTIONS = 5
+
+
+def group(word, edges):
+    return f" {word} " + " ".join(f"{u}:{w}" for u, w in edges) if edges else ""
+
+
+def star(v, out, into):
+    return f"star {v}{group('out', out)}{group('in', into)}"
+
+
+def questions(chance, n):
+    return [f"dist {chance.randrange(n)} {chance.randrange(n)}" for _ in range(QUESTIONS)]
+
+
+def dense(n):
+    chance = random.Random(n)
+    lines = [f"vertices {n}"]
+    for _ in range(2 * n):
+        v = chance.randrange(n)
+        sides = [[(u, chance.randint(1, 1000)) for u in range(n) if u != v and chance.random() < 0.5] for _ in "oi"]
+        lines.append(star(v, *sides))
+        lines += questions(chance, n)
+    return lines, 2 * n
+
+
+def changed(n, edges, chance, weight):
+    """The stars one by one, and then changes of single edges; one in eight takes the edge away until its next change."""
+    lines = [f"vertices {n}"]
+    for v in range(n):
+        out = sorted((u, w) for (x, u), w in edges.items() if x == v)
+        into = sorted((x, w) for (x, u), w in edges.items() if u == v)
+        lines.append(star(v, out, into))
+    names = sorted(edges)
+    for _ in range(CHANGES):
+        u, v = chance.choice(names)
+        lines.append(f"cut {u} {v}" if chance.randrange(8) == 0 else f"edge {u} {v} {weight(edges[u, v])}")
+        lines += questions(chance, n)
+    return lines, n + CHANGES
+
+
+def road(n):
+    rows, columns = GRIDS[n]
+    chance = random.Random(n)
+    edges = {}
+    for v in range(n):
+        row, column = divmod(v, columns)
+        for u, there, length in ((v + 1, column + 1 < columns, 100), (v + columns, row + 1 < rows, 150)):
+            if there:
+                edges[v, u] = length + chance.randrange(20)
+                edges[u, v] = length + chance.randrange(20)
+    return changed(n, edges, chance, lambda w: max(1, w + chance.randint(-60, 60)))
+
+
+def sparse(n):
+    chance = random.Random(n)
+    edges = {(v, u): chance.randint(1, 1000) for v in range(n) for u in chance.sample([x for x in range(n) if x != v], 4)}
+    return changed(n, edges, chance, lambda w: chance.randint(1, 1000))
+
+
+SCRIPTS = {f"{kind.__name__}{n}": (kind, n)
+           for kind, sizes in ((dense, (16, 32, 64, 128)), (road, (16, 60, 128)), (sparse, (16, 64, 128)))
+           for n in sizes}
+
+
+def measured(text, words):
+    """Seconds, peak kilobytes and kept paths. The input is closed only once the memory was read, behind the last reply."""
+    start = time.perf_counter()
+    with subprocess.Popen([PROGRAM, "run"] + words, stdin=subprocess.PIPE, stdout=subprocess.PIPE, bufsize=-1) as child:
+        writer = threading.Thread(target=lambda: (child.stdin.write(text), child.stdin.flush()))
+        writer.start()
+        for line in child.stdout:
+            if line.startswith(b"stats"):
+                break
+        seconds = time.perf_counter() - start
+        writer.join()
+        with open(f"/proc/{child.pid}/status", encoding="ascii") as status:
+            memory = next(int(entry.split()[1]) for entry in status if entry.startswith("VmHWM"))
+        child.stdin.close()
+    return seconds, memory, int(line.split()[6])
+
+
+def main():
+    names = sys.argv[1:] or list(SCRIPTS)
+    print(f"{'script':<11}{'smooth':<8}{'updates':>8}{'seconds':>9}{'ms/update':>11}{'paths':>9}{'peak MB':>9}")
+    for name in names:
+        kind, n = SCRIPTS[name]
+        lines, updates = kind(n)
+        text = ("\n".join(lines + ["stats"]) + "\n").encode()
+        for words in ([], ["--smooth"]):
+            seconds, memory, paths = min(measured(text, words) for _ in range(3))
+            print(f"{name:<11}{'on' if words else 'off':<8}{updates:>8}{seconds:>9.3f}{1000 * seconds / updates:>11.3f}"
+                  f"{paths:>9}{memory / 1024:>9.1f}", flush=True)
+
+
+if __name__ == "__main__":
+    main()
