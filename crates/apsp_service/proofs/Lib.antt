@@ -1,4 +1,3 @@
-pub mod RoundsMade
 pub mod Lines
 pub mod Replied
 pub mod LineReads

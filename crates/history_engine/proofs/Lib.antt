@@ -2,3 +2,4 @@ pub mod Moments
 pub mod Stepping
 pub mod Cleaning
 pub mod Steps
+pub mod Existing

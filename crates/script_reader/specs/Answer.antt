@@ -81,5 +81,5 @@ Fits n (Cut u v) = (u < n) × (v < n) × (u ≢ v)
 Fits n (Dist x y) = (x < n) × (y < n)
 Fits n (Path x y) = (x < n) × (y < n)
 Fits n (Row x) = x < n
-Fits n (Age list) = All (λ x. x < n) list
+Fits n (Age list) = (0 < length list) × All (λ x. x < n) list
 Fits n _ = ⊤
