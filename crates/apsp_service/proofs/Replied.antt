@@ -25,27 +25,34 @@ pub distance_exists : (g : Graph) (x y : ℕ) → (d : Option ℕ) × IsDistance
 distance_exists g x y = elim (least_or_none g x y) [ inl p ↦ (Some (weight_of g p.0), (p.0, p.1, refl)) | inr none ↦ (None, none) ]
 
 -- the first n of them
-pub record FirstRow (g : Graph) (x n : ℕ) : Type 0 where
-  pub row : List (Option ℕ)
+pub record IsFirstRow (g : Graph) (x n : ℕ) (row : List (Option ℕ)) : Type 0 where
   pub size : length row ≡ n
   pub each : (y : ℕ) → y < n → IsDistance g x y (get_or row y None)
 
-pub row_more : (g : Graph) (x n : ℕ) (d : Option ℕ) → FirstRow g x n → IsDistance g x n d → FirstRow g x (suc n)
-row_more g x n d r is = record { row = r.row ++ d ∷ []; size = omega (arith, length-append r.row (d ∷ []), r.size); each = each }
+pub row_none : (g : Graph) (x : ℕ) → IsFirstRow g x 0 []
+row_none g x = record { size = refl; each = λ y l. absurd (omega arith) }
+
+pub row_more : (g : Graph) (x n : ℕ) (d : Option ℕ) (row : List (Option ℕ)) → IsFirstRow g x n row → IsDistance g x n d → IsFirstRow g x (n + 1) (row ++ d ∷ [])
+row_more g x n d row r is = record { size = omega (arith, length-append row (d ∷ []), r.size); each = each }
   where
-    each : (y : ℕ) → y < suc n → IsDistance g x y (get_or (r.row ++ d ∷ []) y None)
+    each : (y : ℕ) → y < n + 1 → IsDistance g x y (get_or (row ++ d ∷ []) y None)
     each y l = elim (cases_lt y n) [
-      | inl less ↦ subst (IsDistance g x y) (sym (get_or-append r.row (d ∷ []) None y (omega (arith, r.size)))) (r.each y less)
+      | inl less ↦ subst (IsDistance g x y) (sym (get_or-append row (d ∷ []) None y (omega (arith, r.size)))) (r.each y less)
       | inr more ↦
-          let same : y ≡ length r.row = omega (arith, r.size) in
+          let same : y ≡ length row = omega (arith, r.size) in
           let at_n : n ≡ y = omega arith in
-          let found : get_or (r.row ++ d ∷ []) y None ≡ d = ap (λ k. get_or (r.row ++ d ∷ []) k None) same ∙ get_or-append_seam r.row d [] None in
+          let found : get_or (row ++ d ∷ []) y None ≡ d = ap (λ k. get_or (row ++ d ∷ []) k None) same ∙ get_or-append_seam row d [] None in
           subst (IsDistance g x y) (sym found) (subst (λ k. IsDistance g x k d) at_n is)
     ]
 
-row_exists : (g : Graph) (x n : ℕ) → FirstRow g x n
-row_exists g x zero = record { row = []; size = refl; each = λ y l. absurd (omega arith) }
-row_exists g x (suc n) = let d = distance_exists g x n in row_more g x n d.0 (row_exists g x n) d.1
+row_exists : (g : Graph) (x n : ℕ) → (row : List (Option ℕ)) × IsFirstRow g x n row
+row_exists g x zero = ([], row_none g x)
+row_exists g x (suc n) =
+    let d = distance_exists g x n in
+    let r = row_exists g x n in
+    let one : n + 1 ≡ suc n = omega arith in
+    let F : ℕ → Type 0 = λ k. IsFirstRow g x k (r.0 ++ d.0 ∷ []) in
+    (r.0 ++ d.0 ∷ [], subst F one (row_more g x n d.0 r.0 r.1 d.1))
 
 age_exists : (n : ℕ) (smooth : Bool) (commands : List Command) (list : List ℕ) → (text : List ℕ) × IsAgeReply n smooth commands list text
 age_exists n smooth commands list = elim (birth_exists n smooth commands list) [
@@ -64,7 +71,7 @@ reply_exists n smooth commands (line.Path x y) =
     let walk = least_is_some_option (graph_of n commands) x y in (path_text (graph_of n commands) x y walk.0, (walk.0, walk.1, refl))
 reply_exists n smooth commands (line.Row x) =
     let r = row_exists (graph_of n commands) x (graph_of n commands).vertices in
-    (row_text x r.row, (r.row, record { size = r.size; each = r.each }, refl))
+    (row_text x r.0, (r.0, record { size = r.1.size; each = r.1.each }, refl))
 reply_exists n smooth commands line.Stats = let c = counts_exist n smooth commands in (stats_text c.0, (c.0, c.1, refl))
 reply_exists n smooth commands (line.Age list) = age_exists n smooth commands list
 

@@ -62,9 +62,9 @@ IsReady None = ⊤
 IsReady (Some e) = (e.spent ≡ false) × (length e.vertices < 2 ^ 40)
 
 -- the fields of a session say what the state says
-pub record StandFor (network : Option Seen) (smooth : Bool) (count : ℕ) (some_refused : Bool) (s : State) : Type 0 where
-  pub network : HasNetwork network s
-  pub smooth : smooth ≡ s.smooth
+pub record StandFor (seen : Option Seen) (cleans : Bool) (count : ℕ) (some_refused : Bool) (s : State) : Type 0 where
+  pub network : HasNetwork seen s
+  pub smooth : cleans ≡ s.smooth
   pub lines : count ≡ s.lines
   pub refused : some_refused ≡ s.refused
 

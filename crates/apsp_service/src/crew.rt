@@ -32,7 +32,8 @@ impl<'a, R: Threads + Sync, G: Gate> Crew<'a, R, G> {
     pub fn update(&self, engine: &mut Engine, star: &Star) -> Result<(), AllocError>
         requires same { star.now.vertices ≡ engine.old.opening }
         requires few { length engine.old.vertices < 2 ^ 40 }
-        ensures { OnOk result (Advance engine.old (Update star.now) engine.new) }
+        ensures advance { OnOk result (Advance engine.old (Update star.now) engine.new) }
+        ensures same { engine.new.opening ≡ engine.old.opening }
     {
         let workers = self.workers.clamp(1, MOST_WORKERS);
         match engine.star(self.rt, star, workers, self.gate) {

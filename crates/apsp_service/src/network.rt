@@ -1,6 +1,6 @@
 //! The engine behind a session, and what a question or an update does with it.
 
-ghost use Rattle.std.specs.Prelude.{◌≡◌, ◌≢◌, ◌<◌, ◌≤◌, ◌×◌, ◌++◌, ◌^◌, All, IfOk, List, MatchOption, OnOk, Option, false, length, string_bytes, ℕ};
+ghost use Rattle.std.specs.Prelude.{◌≡◌, ◌≢◌, ◌<◌, ◌≤◌, ◌++◌, ◌^◌, All, IfOk, List, [], OnOk, Option, false, length, string_bytes, ℕ};
 ghost use Rattle.std.specs.Option.{ForSome};
 ghost use Rattle.std.specs.List.{flat_map};
 ghost use Rattle.apsp_model.specs.declared.TheConstants.{MOST_VERTICES};
@@ -131,7 +131,7 @@ impl Network {
         requires inside { x < self.now.opening }
         ensures { OnOk result ((row : List (Option ℕ)) × AreDistances self.now.graph x row × (string_bytes text.new ≡ string_bytes text.old ++ flat_map entry_text row)) }
     {
-        for y in 0..self.vertices() {
+        for y in 0..self.engine.graph().vertices() {
             let distance = self.distance(x, y);
             put_entry(text, distance)?;
         }

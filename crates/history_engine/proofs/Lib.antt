@@ -2,4 +2,3 @@ pub mod Moments
 pub mod Stepping
 pub mod Cleaning
 pub mod Steps
-pub mod Existing

@@ -225,9 +225,9 @@ row_line_fits n (a ∷ []) l e =
     subst (Fits n) (as_line (Row x.value) l x.second) (vertex_fits n 2 a x.value x.first)
 row_line_fits n (a ∷ b ∷ ws) l e = cc
 
-stats_line_fits : (n : ℕ) (ws : List (List ℕ)) (l : Line) → stats_line ws ≡ Ok l → Fits n l
-stats_line_fits n [] l e = subst (Fits n) (as_line Stats l e) tt
-stats_line_fits n (w ∷ ws) l e = cc
+stats_line_fits : (n : ℕ) (ws : List (List ℕ)) (l : Line) → IsVertexCount n → stats_line ws ≡ Ok l → Fits n l
+stats_line_fits n [] l count e = subst (Fits n) (as_line Stats l e) (omega (arith, count.some))
+stats_line_fits n (w ∷ ws) l count e = cc
 
 age_line_fits : (n : ℕ) (ws : List (List ℕ)) (l : Line) → age_line n ws ≡ Ok l → Fits n l
 age_line_fits n [] l e = cc
@@ -243,7 +243,7 @@ line_fits command.Cut n ws l count e = cut_line_fits n ws l e
 line_fits command.Dist n ws l count e = dist_fits n ws l e
 line_fits command.Path n ws l count e = path_fits n ws l e
 line_fits command.Row n ws l count e = row_line_fits n ws l e
-line_fits command.Stats n ws l count e = stats_line_fits n ws l e
+line_fits command.Stats n ws l count e = stats_line_fits n ws l (count (λ h. cc)) e
 line_fits command.Age n ws l count e = age_line_fits n ws l e
 line_fits command.Block n ws l count e = cc
 line_fits command.Ask n ws l count e = cc

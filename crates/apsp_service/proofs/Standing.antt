@@ -1,0 +1,80 @@
+-- A session goes on standing for the lines that were read.
+use Rattle.std.proofs.Common.{◌≡◌, ℕ, ◌+◌, ◌<◌, ◌≤◌, ◌^◌, List, [], length, refl, sym, ap, subst, ◌∙◌, arith}
+use Rattle.std.specs.Prelude.{Bool, true, Option, Some, None, Result, Ok, Err, OnOk}
+use Rattle.apsp_model.specs.Command.{Update}
+use Rattle.apsp_model.specs.Star.{Star}
+use Rattle.history_engine.specs.Seen.{Seen}
+use Rattle.history_engine.specs.Advance.{Stands, Advance}
+use Rattle.history_engine.proofs.Moments.{law}
+use Rattle.script_reader.specs.Meaning.{line_of}
+use Rattle.script_reader.specs.Refused.{Refusal}
+use Rattle.script_reader.specs.declared.Line.{Line}
+use Rattle.script_reader.specs.declared.Line.TheVariants as line
+use Rattle.apsp_service.specs.Session.{State, context_of, accepted, counted, updated, after_read, after_line}
+use Rattle.apsp_service.specs.Giving.{HasNetwork, IsNetworkOf, IsReady, StandFor}
+
+pub ready_of : (seen : Option Seen) (s : State) → HasNetwork seen s → s.lines < 2 ^ 40 → IsReady seen
+ready_of None s h few = tt
+ready_of (Some e) s h few = (h.stands.not_spent, omega (arith, h.few, few))
+
+-- what an accepted line does not change
+record Keeps (s t : State) : Type 0 where
+  smooth : t.smooth ≡ s.smooth
+  lines : t.lines ≡ s.lines
+  refused : t.refused ≡ s.refused
+
+kept_all : (s : State) → Keeps s s
+kept_all s = record { smooth = refl; lines = refl; refused = refl }
+
+accepted_keeps : (s : State) (l : Line) → Keeps s (accepted s l)
+accepted_keeps s line.Nothing = kept_all s
+accepted_keeps s (line.Vertices n) = record { smooth = refl; lines = refl; refused = refl }
+accepted_keeps s (line.Star star) = record { smooth = refl; lines = refl; refused = refl }
+accepted_keeps s (line.Edge u v w) = record { smooth = refl; lines = refl; refused = refl }
+accepted_keeps s (line.Cut u v) = record { smooth = refl; lines = refl; refused = refl }
+accepted_keeps s (line.Dist x y) = kept_all s
+accepted_keeps s (line.Path x y) = kept_all s
+accepted_keeps s (line.Row x) = kept_all s
+accepted_keeps s line.Stats = kept_all s
+accepted_keeps s (line.Age list) = kept_all s
+
+pub line_stands : {E : Type 0} (r : Result (Unit {0}) E) (s : State) (content : List ℕ) (l : Line) (seen : Option Seen) (cleans : Bool) (count : ℕ) (some_refused : Bool) → line_of (context_of s) content ≡ Ok l → OnOk r (HasNetwork seen (accepted (counted s) l)) → cleans ≡ s.smooth → count ≡ s.lines + 1 → some_refused ≡ s.refused → OnOk r (StandFor seen cleans count some_refused (after_line s content))
+line_stands (Err e) s content l seen cleans count some_refused reading h smooth lines refused = tt
+line_stands (Ok u) s content l seen cleans count some_refused reading h smooth lines refused =
+    let F : Result Line Refusal → Type 0 = λ read. StandFor seen cleans count some_refused (after_read s read) in
+    let k : Keeps (counted s) (accepted (counted s) l) = accepted_keeps (counted s) l in
+    subst F (sym reading) (record { network = h; smooth = smooth ∙ sym k.smooth; lines = lines ∙ sym k.lines; refused = refused ∙ sym k.refused })
+
+-- the network is that of the state also after more lines
+has_later : (seen : Option Seen) (s t : State) → t.vertices ≡ s.vertices → t.smooth ≡ s.smooth → t.commands ≡ s.commands → s.lines ≤ t.lines → HasNetwork seen s → HasNetwork seen t
+has_later None s t vertices smooth commands later h = (vertices ∙ h.0, commands ∙ h.1)
+has_later (Some e) s t vertices smooth commands later h = record {
+  vertices = vertices ∙ h.vertices;
+  smooth = h.smooth ∙ sym smooth;
+  stands = subst (Stands e) (sym commands) h.stands;
+  few = omega (arith, h.few, later);
+}
+
+pub refusal_stands : {E : Type 0} (r : Result (Unit {0}) E) (s : State) (content : List ℕ) (refusal : Refusal) (seen : Option Seen) (cleans : Bool) (count old : ℕ) (some_refused : Bool) → line_of (context_of s) content ≡ Err refusal → StandFor seen cleans old some_refused s → count ≡ old + 1 → OnOk r (StandFor seen cleans count true (after_line s content))
+refusal_stands (Err e) s content refusal seen cleans count old some_refused reading stands lines = tt
+refusal_stands (Ok u) s content refusal seen cleans count old some_refused reading stands lines =
+    let F : Result Line Refusal → Type 0 = λ read. StandFor seen cleans count true (after_read s read) in
+    let t : State = after_read s (Err refusal) in
+    subst F (sym reading) (record { network = has_later seen s t refl refl refl (omega arith) stands.network; smooth = stands.smooth; lines = omega (arith, lines, stands.lines); refused = refl })
+
+-- a network that is begun
+pub begun : (e : Seen) (s : State) (n : ℕ) → e.opening ≡ n → e.smooth ≡ s.smooth → Stands e [] → IsNetworkOf e (accepted (counted s) (line.Vertices n))
+begun e s n opening smooth stands = record { vertices = sym opening; smooth = smooth; stands = stands; few = omega (arith, ap length stands.outline.vertices) }
+
+pub later : (e : Seen) (s : State) → IsNetworkOf e s → IsNetworkOf e (counted s)
+later e s h = has_later (Some e) s (counted s) refl refl refl (omega arith) h
+
+-- an update was made
+pub advanced : {E : Type 0} (r : Result (Unit {0}) E) (before after : Seen) (s : State) (star : Star) → IsNetworkOf before s → OnOk r (Advance before (Update star) after) → OnOk r (IsNetworkOf after (updated (counted s) star))
+advanced (Err e) before after s star h a = tt
+advanced (Ok u) before after s star h a = record {
+  vertices = h.vertices ∙ sym a.opening;
+  smooth = a.smooth ∙ h.smooth;
+  stands = law before after (Update star) s.commands a h.stands;
+  few = ?;
+}
