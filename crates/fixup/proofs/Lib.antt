@@ -12,3 +12,4 @@ pub mod Joined
 pub mod Wholes
 pub mod Taking
 pub mod Winner
+pub mod Untouched

@@ -1,6 +1,6 @@
 //! A settling, class by class.
 
-ghost use Rattle.std.specs.Prelude.{◌≡◌, ℕ, ◌<◌, ◌≤◌, [], IfOk, OnOk, OnErr};
+ghost use Rattle.std.specs.Prelude.{◌≡◌, ℕ, ◌<◌, ◌≤◌, ◌^◌, [], IfOk, OnOk, OnErr};
 ghost use Rattle.apsp_model.specs.Walk.{IsOnceEach};
 ghost use Rattle.apsp_model.specs.Settled.{IsReady, IsSettled};
 ghost use Rattle.path_book.specs.Book.{IsBook, kept_paths};
@@ -55,6 +55,7 @@ pub fn settle<R: Threads + Sync, G: Gate>(
     requires most_workers { workers ≤ 64 }
     requires ready { IsReady graph.now v (kept_paths book.old) }
     ensures settled { IfOk result (λ s. IsSettled graph.now birth (kept_paths book.old) (kept_paths book.new) s.formed s.promoted) }
+    ensures few { IfOk result (λ s. s.formed ≤ 2 ^ 48) }
     ensures vertices { OnOk result (book.new.arena.vertices ≡ book.old.arena.vertices) }
     ensures lawful { IsBook book.new }
 {

@@ -105,7 +105,7 @@ cleaning-append : (vs : List ℕ) (g : Graph) (a b : List Step) → with_cleanin
 cleaning-append [] g a b = refl
 cleaning-append (v ∷ vs) g a b = cleaning-append vs g (Star_step v g ∷ a) b
 
-after_steps-append : (m : Moment) (a b : List Step) → after_steps m (a ++ b) ≡ after_steps (after_steps m b) a
+pub after_steps-append : (m : Moment) (a b : List Step) → after_steps m (a ++ b) ≡ after_steps (after_steps m b) a
 after_steps-append m [] b = refl
 after_steps-append m (Star_step v g ∷ a) b = ap (λ n. after_star n v g) (after_steps-append m a b)
 

@@ -4,17 +4,17 @@ use Rattle.std.proofs.Common.{sym, ◌∙◌, ap, subst, arith, inl, inr}
 use Rattle.std.proofs.lemmas.Bool.{cases_lt, lt-ltb, le-ltb}
 use Rattle.apsp_model.specs.Graph.{Graph}
 use Rattle.apsp_model.specs.Star.{Star, star_of}
-use Rattle.apsp_model.specs.Walk.{weight_of, IsOnceEach}
+use Rattle.apsp_model.specs.Walk.{IsOnceEach}
 use Rattle.apsp_model.specs.Local.{IsLocal}
 use Rattle.apsp_model.specs.Command.{Step, Star_step, cleaned, with_cleaning}
 use Rattle.apsp_model.specs.Kept.{Moment, after_star, after_steps, IsWithEdge}
-use Rattle.apsp_model.specs.Counts.{CountIs, RemovedIs, PathsAre}
+use Rattle.apsp_model.specs.Counts.{RemovedIs, PathsAre}
 use Rattle.apsp_model.specs.Paths.{KeptPath, IsOncePerList, moment_in}
 use Rattle.fixup_math.proofs.Births.{IsBook}
 use Rattle.fixup_math.proofs.Counting.{in_cons, in_nil, head_in, tail_in, count_same}
 use Rattle.history_engine.specs.Seen.{Seen, moment_seen, IsSame}
 use Rattle.history_engine.specs.Advance.{AdvanceByStar, steps_of_star}
-use Rattle.history_engine.specs.Lawful.{IsLawful, AreLawful}
+use Rattle.history_engine.specs.Lawful.{IsLawful}
 use Rattle.history_engine.specs.Stepping.{IsStepDone, IsUnderWay}
 use Rattle.history_engine.proofs.Moments.{same_chain, star_on}
 
@@ -113,7 +113,7 @@ first_step e s g formed removed paths is done = record {
   steps_is = refl;
   removed_is = (0, removed, refl, done.removed_is, omega arith);
   formed_is = done.formed_is;
-  paths = done.paths;
+  lawful = done.lawful;
 }
 
 -- one cleaning step more
@@ -126,10 +126,10 @@ cleaning_step e s g v left steps formed removed paths more_formed more_removed a
   removed_is = (removed, more_removed, w.removed_is, count_same (λ p. (moment_in steps paths).kept p × IsWithEdge p × Contains p v) (λ p. (after_steps (moment_seen e) w.made).kept p × IsWithEdge p × Contains p v) more_removed (λ p. (λ h. ((w.says.kept p).0 h.0, h.1, h.2), λ h. ((w.says.kept p).1 h.0, h.1, h.2))) done.removed_is, refl);
   formed_is = λ a b at_first at_last.
       let now : ℕ = length (edge_lists paths) in
-      let one : formed + b ≡ now + removed = w.formed_is now b at_first (paths_are steps paths w.paths.once) in
-      let two : more_formed + now ≡ a + more_removed = done.formed_is a now (paths_are steps paths w.paths.once) at_last in
+      let one : formed + b ≡ now + removed = w.formed_is now b at_first (paths_are steps paths w.lawful.once) in
+      let two : more_formed + now ≡ a + more_removed = done.formed_is a now (paths_are steps paths w.lawful.once) at_last in
       omega arith;
-  paths = done.paths;
+  lawful = done.lawful;
 }
 
 -- what is seen once no vertex is left
@@ -144,11 +144,11 @@ update_done e s g steps formed removed paths once is w = record {
     before = length (edge_lists e.paths);
     after = length (edge_lists paths);
     paths_before = paths_are e.steps e.paths once;
-    paths_after = count_same (λ p. (moment_in steps paths).kept p × IsWithEdge p) (λ p. (after_steps (moment_seen e) (steps_of_star e s)).kept p × IsWithEdge p) (length (edge_lists paths)) (λ p. (λ h. ((says.kept p).0 h.0, h.1), λ h. ((says.kept p).1 h.0, h.1))) (paths_are steps paths w.paths.once);
+    paths_after = count_same (λ p. (moment_in steps paths).kept p × IsWithEdge p) (λ p. (after_steps (moment_seen e) (steps_of_star e s)).kept p × IsWithEdge p) (length (edge_lists paths)) (λ p. (λ h. ((says.kept p).0 h.0, h.1), λ h. ((says.kept p).1 h.0, h.1))) (paths_are steps paths w.lawful.once);
     removed_is = subst (λ (made : List Step). RemovedIs (moment_seen e) made removed) w.rest w.removed_is;
-    formed_is = w.formed_is (length (edge_lists paths)) (length (edge_lists e.paths)) (paths_are e.steps e.paths once) (paths_are steps paths w.paths.once);
+    formed_is = w.formed_is (length (edge_lists paths)) (length (edge_lists e.paths)) (paths_are e.steps e.paths once) (paths_are steps paths w.lawful.once);
   };
-  book = record { weights = w.paths.weights; once = w.paths.once; says = says };
+  book = record { weights = w.lawful.weights; once = w.lawful.once; says = says };
   not_spent = refl;
 }
   where

@@ -135,7 +135,7 @@ module _ (v k : ℕ) (gb g : Graph) (before : List KeptPath) (same_count : gb.ve
       pub step_done : IsStepDone v g k before after formed removed
       step_done = record {
         says = says;
-        paths = record {
+        lawful = record {
           lawful = from_book g (moment_in (k + 1) after) (book_on g (after_star m v g) (moment_in (k + 1) after) (same_turned (moment_in (k + 1) after) (after_star m v g) says) (book_after m v gb g same_count same_away book));
           weights = settled.weights;
           once = once;

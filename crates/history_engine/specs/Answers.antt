@@ -1,5 +1,5 @@
 -- What an engine answers.
-use Rattle.std.specs.Prelude.{◌≡◌, ℕ, ◌+◌, true, length}
+use Rattle.std.specs.Prelude.{◌≡◌, ◌+◌, true, length}
 use Rattle.apsp_model.specs.Counts.{Counts as Numbers, PathsAre, HistoricalAre}
 use Rattle.history_engine.specs.declared.engine.Counts.{Counts}
 use Rattle.history_engine.specs.declared.engine.Change.{Change}

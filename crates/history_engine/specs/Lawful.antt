@@ -29,4 +29,4 @@ pub record IsStepReady (v : ℕ) (g : Graph) (steps : ℕ) (paths : List KeptPat
   pub before : Graph
   pub same_count : before.vertices ≡ g.vertices
   pub same_away : (a b : ℕ) → touches v (a, b) ≡ false → weight_at before a b ≡ weight_at g a b
-  pub paths : AreLawful before steps paths
+  pub lawful : AreLawful before steps paths

@@ -1,5 +1,5 @@
 -- What an engine's fields say, and what holds of them.
-use Rattle.std.specs.Prelude.{◌≡◌, ℕ, ◌*◌, ◌^◌, ◌≤◌, false, length}
+use Rattle.std.specs.Prelude.{◌≡◌, ◌*◌, ◌^◌, ◌≤◌, false, length}
 use Rattle.path_book.specs.Book.{kept_paths}
 use Rattle.history_engine.specs.declared.engine.Engine.TheInside.{Inside}
 use Rattle.history_engine.specs.Seen.{Seen}
@@ -21,7 +21,7 @@ seen_of e = record {
 -- the parts have one number of vertices, an update makes at most 41 steps, and the paths are lawful until memory ran out
 pub record IsEngine (e : Inside) : Type 0 where
   pub star_size : e.before.vertices ≡ e.graph.vertices
-  pub book_size : e.book.arena.vertices ≡ e.graph.vertices
+  pub book_size : e.spent ≡ false → e.book.arena.vertices ≡ e.graph.vertices
   pub timeline_size : e.timeline.size ≡ e.graph.vertices
   pub few_updates : length e.timeline.vertices ≤ 2 ^ 40
   pub few_steps : e.progress.steps ≤ 41 * length e.timeline.vertices

@@ -1,15 +1,19 @@
 -- What contracts see of the least path that an engine names.
-use Rattle.std.specs.Prelude.{◌≡◌, ℕ}
+use Rattle.std.specs.Prelude.{◌≡◌, ℕ, refl}
+use Rattle.std.specs.Coded.{Coded, code_by, coded×, coded_ℕ}
 use Rattle.apsp_model.specs.Walk.{weight_of as walk_weight}
 use Rattle.apsp_model.specs.Least.{IsLeast}
-use Rattle.path_arena.specs.Arena.{IsLive, list_of, weight_of}
-use Rattle.path_book.specs.Book.{Book, IsBook, IsLeastKept, kept_paths}
+use Rattle.path_arena.specs.Arena.{list_of, weight_of}
+use Rattle.path_book.specs.Book.{Book, book_code, IsBook, IsLeastKept, kept_paths}
 use Rattle.history_engine.specs.Seen.{Seen}
 
 -- the book that it stands in, and its id
 pub record LeastPath : Type 0 where
   pub book : Book
   pub id : ℕ
+
+abbrev pub least_code : Coded LeastPath
+least_code = code_by (Book × ℕ) (coded× book_code coded_ℕ) (λ l. (l.book, l.id)) (λ t. record { book = t.0; id = t.1 }) (λ _. refl)
 
 -- the book is the engine's; the id is that of its least kept path of the pair, which is the least walk of the graph, with its weight
 pub record IsLeastPath (e : Seen) (x y : ℕ) (l : LeastPath) : Type 0 where

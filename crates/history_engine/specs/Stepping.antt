@@ -13,7 +13,7 @@ use Rattle.history_engine.specs.Advance.{steps_of_star}
 -- the kept paths after a star step at v that left the graph g, with how many were formed and removed
 pub record IsStepDone (v : ℕ) (g : Graph) (steps : ℕ) (before after : List KeptPath) (formed removed : ℕ) : Type 0 where
   pub says : IsSame (moment_in (steps + 1) after) (after_star (moment_in steps before) v g)
-  pub paths : AreLawful g (steps + 1) after
+  pub lawful : AreLawful g (steps + 1) after
   pub removed_is : CountIs (λ p. (moment_in steps before).kept p × IsWithEdge p × Contains p v) removed
   pub formed_is : (a b : ℕ) → PathsAre (moment_in steps before) b → PathsAre (moment_in (steps + 1) after) a → formed + b ≡ a + removed
 
@@ -25,13 +25,13 @@ pub record IsUnderWay (e : Seen) (s : Star) (g : Graph) (left : List ℕ) (steps
   pub steps_is : steps ≡ e.steps + length made
   pub removed_is : RemovedIs (moment_seen e) made removed
   pub formed_is : (a b : ℕ) → PathsAre (moment_seen e) b → PathsAre (moment_in steps paths) a → formed + b ≡ a + removed
-  pub paths : AreLawful g steps paths
+  pub lawful : AreLawful g steps paths
 
 -- the update by the star s has put its star in place, and no step was made yet
-pub record IsBegun (e : Seen) (s : Star) (g : Graph) (smooth : Bool) (vertices : List ℕ) (v steps : ℕ) (paths : List KeptPath) : Type 0 where
+pub record IsBegun (e : Seen) (s : Star) (g : Graph) (cleans : Bool) (vs : List ℕ) (v k : ℕ) (before : List KeptPath) : Type 0 where
   pub graph : g ≡ star_of e.graph s
-  pub smooth : e.smooth ≡ smooth
-  pub vertices : e.vertices ≡ vertices
+  pub smooth : e.smooth ≡ cleans
+  pub vertices : e.vertices ≡ vs
   pub vertex : s.vertex ≡ v
-  pub steps : e.steps ≡ steps
-  pub paths : e.paths ≡ paths
+  pub steps : e.steps ≡ k
+  pub paths : e.paths ≡ before

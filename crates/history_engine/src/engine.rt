@@ -1,21 +1,21 @@
 //! The engine.
 
-ghost use Rattle.std.specs.Prelude.{◌≡◌, ◌<◌, ◌≤◌, ◌^◌, ◌↔◌, ℕ, List, length, true, false, IfOk, OnOk, MatchOption, All, Err};
+ghost use Rattle.std.specs.Prelude.{◌≡◌, ◌<◌, ◌≤◌, ◌^◌, ◌↔◌, ℕ, List, [], length, true, false, IfOk, OnOk, MatchOption, All, Err};
 ghost use Rattle.apsp_model.specs.Command.{Command, Update};
 ghost use Rattle.apsp_model.specs.Counts.{CountsAre};
 ghost use Rattle.apsp_model.specs.Kept.{IsKept, HasBirth};
 ghost use Rattle.apsp_model.specs.Least.{HasNoWalk};
 ghost use Rattle.apsp_model.specs.Paths.{IsKeptIn, HasBirthIn};
 ghost use Rattle.graph_store.specs.Making.{IsVertexCount, IsMakeAnswer};
-ghost use Rattle.path_book.specs.Book.{IsBook, kept_paths};
+ghost use Rattle.path_book.specs.Book.{kept_paths};
 ghost use Rattle.history_engine.specs.Advance.{Advance, Stands};
 ghost use Rattle.history_engine.specs.Answers.{IsChange, IsSpentBy, AreCounts, numbers};
 ghost use Rattle.history_engine.specs.Least.{IsLeastPath};
 ghost use Rattle.history_engine.specs.declared.engine.EngineError.TheVariants as error;
 
 use crate::least::Least;
-use crate::update::{Progress, update};
 use crate::timeline::Timeline;
+use crate::update::{Progress, update};
 use apsp_io::Gate;
 use apsp_model::Memory;
 use graph_store::{Graph, MakeError, Star};
@@ -103,12 +103,21 @@ impl Engine {
         ensures answer { IsMakeAnswer n result }
     {
         let graph = Graph::new(alloc, n)?;
+        let Ok(before) = Star::new(alloc, n, 0) else {
+            return Err(MakeError::Memory);
+        };
+        let Ok(book) = Book::new(alloc, n) else {
+            return Err(MakeError::Memory);
+        };
+        let Ok(timeline) = Timeline::new(alloc, n) else {
+            return Err(MakeError::Memory);
+        };
         Ok(Engine {
             alloc,
             graph,
-            before: Star::new(alloc, n, 0).map_err(|_| MakeError::Memory)?,
-            book: Book::new(alloc, n).map_err(|_| MakeError::Memory)?,
-            timeline: Timeline::new(alloc, n).map_err(|_| MakeError::Memory)?,
+            before,
+            book,
+            timeline,
             smooth,
             progress: Progress {
                 steps: 0,
@@ -215,8 +224,7 @@ impl Engine {
     /// The book of the kept paths.
     pub fn book(&self) -> &Book
         requires { self.now.spent ≡ false }
-        ensures paths { kept_paths result.now ≡ self.now.paths }
-        ensures lawful { IsBook result.now }
+        ensures { kept_paths result.now ≡ self.now.paths }
     {
         &self.book
     }

@@ -16,15 +16,17 @@ pub struct Least<'a> {
 }
 
 impl<'a> Model for Least<'a> {
-    ghost use Rattle.history_engine.specs.Least.{LeastPath};
+    ghost use Rattle.history_engine.specs.Least.{LeastPath, least_code};
 
     ghost Value = { LeastPath };
 
+    ghost coded = { least_code };
+
     ghost view = { λ l. record { book = l.book.now; id = l.id } };
 
-    ghost use Rattle.path_arena.specs.Arena.{IsLive as IsLiveId};
+    ghost use Rattle.path_arena.specs.Arena.{IsLive};
 
-    ghost invariant = { λ l. IsLiveId l.book.now.arena l.id };
+    ghost invariant = { λ l. IsLive l.book.now.arena l.id };
 }
 
 impl<'a> Least<'a> {

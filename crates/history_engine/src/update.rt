@@ -1,9 +1,9 @@
 //! The steps of an update: a star step at its vertex, and the cleaning steps behind it.
 
-ghost use Rattle.std.specs.Prelude.{◌≡◌, ◌<◌, ◌≤◌, ◌+◌, ◌^◌, [], ◌∷◌, ◌++◌, length, IfOk, OnOk};
+ghost use Rattle.std.specs.Prelude.{◌≡◌, ◌<◌, ◌≤◌, ◌+◌, ◌*◌, ◌^◌, [], ◌∷◌, ◌++◌, length, IfOk, OnOk};
 ghost use Rattle.apsp_model.specs.Star.{Star};
 ghost use Rattle.apsp_model.specs.Command.{cleaned};
-ghost use Rattle.path_book.specs.Book.{IsBook, kept_paths};
+ghost use Rattle.path_book.specs.Book.{kept_paths};
 ghost use Rattle.history_engine.specs.Seen.{Seen};
 ghost use Rattle.history_engine.specs.Lawful.{AreLawful, IsStepReady};
 ghost use Rattle.history_engine.specs.Stepping.{IsStepDone, IsUnderWay, IsBegun};
@@ -62,7 +62,7 @@ pub(crate) fn update<R: Threads + Sync, G: Gate>(
     ensures done { IfOk result (λ p. (e : Seen) (s : Star) → IsBegun e s graph.now smooth timeline.old.vertices v steps (kept_paths book.old) → IsUnderWay e s graph.now [] p.steps p.formed p.removed (kept_paths book.new)) }
     ensures steps_few { IfOk result (λ p. p.steps ≤ steps + 41) }
     ensures steps_more { IfOk result (λ p. steps ≤ p.steps) }
-    ensures book_size { book.new.arena.vertices ≡ book.old.arena.vertices }
+    ensures book_size { OnOk result (book.new.arena.vertices ≡ book.old.arena.vertices) }
     ensures timeline { timeline.new.vertices ≡ timeline.old.vertices }
     ensures timeline_size { timeline.new.size ≡ timeline.old.size }
     ensures room { OnOk result (1 ≤ timeline.new.room) }
@@ -106,11 +106,13 @@ fn clean<R: Threads + Sync, G: Gate>(
     ensures done { IfOk result (λ p. (e : Seen) (s : Star) → IsUnderWay e s graph.now (cleaned (timeline.now.vertices ++ v ∷ [])) done.steps done.formed done.removed (kept_paths book.old) → IsUnderWay e s graph.now [] p.steps p.formed p.removed (kept_paths book.new)) }
     ensures steps_few { IfOk result (λ p. p.steps ≤ done.steps + 40) }
     ensures steps_more { IfOk result (λ p. done.steps ≤ p.steps) }
-    ensures book_size { book.new.arena.vertices ≡ book.old.arena.vertices }
+    ensures book_size { OnOk result (book.new.arena.vertices ≡ book.old.arena.vertices) }
 {
     let mut progress = done;
     'powers: for power in 0..POWERS {
-        progress = clean_one(rt, alloc, book, graph, timeline, v, power, progress, workers, gate)?;
+        progress = clean_one(
+            rt, alloc, book, graph, timeline, v, power, progress, workers, gate,
+        )?;
     }
     Ok(progress)
 }
@@ -134,17 +136,17 @@ fn clean_one<R: Threads + Sync, G: Gate>(
     requires inside { v < graph.now.vertices }
     requires power { power < 40 }
     requires few_steps { done.steps + 1 < 2 ^ 64 }
-    requires few_formed { done.formed ≤ 2 ^ 60 }
-    requires few_removed { done.removed ≤ 2 ^ 60 }
+    requires few_formed { done.formed ≤ 2 ^ 48 * (power + 1) }
+    requires few_removed { done.removed ≤ 2 ^ 48 * (power + 1) }
     requires some_workers { 1 ≤ workers }
     requires most_workers { workers ≤ 64 }
     ensures done { IfOk result (λ p. (e : Seen) (s : Star) → IsUnderWay e s graph.now (left_from (timeline.now.vertices ++ v ∷ []) power) done.steps done.formed done.removed (kept_paths book.old) → IsUnderWay e s graph.now (left_from (timeline.now.vertices ++ v ∷ []) (power + 1)) p.steps p.formed p.removed (kept_paths book.new)) }
     ensures paths { IfOk result (λ p. AreLawful graph.now p.steps (kept_paths book.new)) }
     ensures steps_few { IfOk result (λ p. p.steps ≤ done.steps + 1) }
     ensures steps_more { IfOk result (λ p. done.steps ≤ p.steps) }
-    ensures formed_few { IfOk result (λ p. p.formed ≤ done.formed + 2 ^ 48) }
-    ensures removed_few { IfOk result (λ p. p.removed ≤ done.removed + 2 ^ 48) }
-    ensures book_size { book.new.arena.vertices ≡ book.old.arena.vertices }
+    ensures formed_few { IfOk result (λ p. p.formed ≤ 2 ^ 48 * (power + 2)) }
+    ensures removed_few { IfOk result (λ p. p.removed ≤ 2 ^ 48 * (power + 2)) }
+    ensures book_size { OnOk result (book.new.arena.vertices ≡ book.old.arena.vertices) }
 {
     let Some(cleaned) = timeline.cleaned(v, power) else {
         return Ok(done);
@@ -178,7 +180,7 @@ fn step<R: Threads + Sync, G: Gate>(
     ensures done { IfOk result (λ t. IsStepDone v graph.now steps (kept_paths book.old) (kept_paths book.new) t.formed t.removed) }
     ensures formed_few { IfOk result (λ t. t.formed ≤ 2 ^ 48) }
     ensures removed_few { IfOk result (λ t. t.removed ≤ 2 ^ 48) }
-    ensures book_size { book.new.arena.vertices ≡ book.old.arena.vertices }
+    ensures book_size { OnOk result (book.new.arena.vertices ≡ book.old.arena.vertices) }
 {
     let before = book.count_paths();
     let through = victims(rt, alloc, book, v, workers, gate)?;

@@ -1,3 +1,3 @@
-mod Deciding
-mod Finding
+pub mod Deciding
+pub mod Finding
 mod Rows

@@ -10,8 +10,8 @@ bounds-latest-cleaned c =
     let t = time_is (length c.args.vertices.now) c.args.power c.in_ok-place.place c.requires.power c.in_ok-place.ensures in
     c.requires.inside _ _ (slice_get-get_or c.args.vertices.now c.in_ok-place.place 0 t.1)
 
-pub returns-then-latest-cleaned : goal.returns-then-latest-cleaned
-returns-then-latest-cleaned c =
+pub returns-then-latest-cleaned-clause-cleaned : goal.returns-then-latest-cleaned-clause-cleaned
+returns-then-latest-cleaned-clause-cleaned c =
     let vs = c.args.vertices.now in
     let place = c.in_ok-place.place in
     let w = slice_index vs place in
@@ -20,8 +20,8 @@ returns-then-latest-cleaned c =
     let F : ℕ → Type 0 = IsLatest vs w in
     sym (cleaned_here vs c.args.v w place _ at c.if-cleaned-v.true (subst F c.if-latest-cleaned.true (c.requires.times w (c.requires.inside place w at))) t.0)
 
-pub returns-else-cleaned-v : goal.returns-else-cleaned-v
-returns-else-cleaned-v c =
+pub returns-else-cleaned-v-clause-cleaned : goal.returns-else-cleaned-v-clause-cleaned
+returns-else-cleaned-v-clause-cleaned c =
     let vs = c.args.vertices.now in
     let place = c.in_ok-place.place in
     let w = slice_index vs place in
