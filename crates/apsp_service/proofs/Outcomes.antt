@@ -213,7 +213,8 @@ outcome_of m left left_now held held_now before now sink_before sink_now (Err st
 outcome_of m left left_now held held_now before now sink_before sink_now (Err stop.Memory) h = memory_outcome m left left_now held held_now before now sink_before sink_now h.0 h.1
 outcome_of m left left_now held held_now before now sink_before sink_now (Err stop.Limit) h = limit_outcome m left left_now held held_now before now sink_before sink_now h.0 h.1 h.2
 
-pub outcome_at : (m : Mode) (left left_now held held_now : Option (List ℕ)) (before now sink_before sink_now status : ℕ) (r : Result Bool Stop) → status ≡ status_after r → RunEnds (smooth_of m) r left left_now held held_now before now sink_before sink_now → IsOutcome m left left_now held held_now before now sink_before sink_now status
-outcome_at m left left_now held held_now before now sink_before sink_now status r is h =
+pub outcome_at : (m : Mode) (smooth : Bool) (left left_now held held_now : Option (List ℕ)) (before now sink_before sink_now status : ℕ) (r : Result Bool Stop) → smooth ≡ smooth_of m → status ≡ status_after r → RunEnds smooth r left left_now held held_now before now sink_before sink_now → IsOutcome m left left_now held held_now before now sink_before sink_now status
+outcome_at m smooth left left_now held held_now before now sink_before sink_now status r same is h =
     let F : ℕ → Type 0 = λ z. IsOutcome m left left_now held held_now before now sink_before sink_now z in
-    subst F (sym is) (outcome_of m left left_now held held_now before now sink_before sink_now r h)
+    let G : Bool → Type 0 = λ b. RunEnds b r left left_now held held_now before now sink_before sink_now in
+    subst F (sym is) (outcome_of m left left_now held held_now before now sink_before sink_now r (subst G same h))

@@ -220,3 +220,9 @@ module _ (smooth : Bool) where
               ∙ ap (λ ls. (after_lines (opening smooth) ls).refused) (sym (lines_at_end bytes));
         },
       )
+
+  -- the same for an equal flag
+  pub ends_for : (b : Bool) (r : Result Bool Stop) (left left_now held held_now : Option (List ℕ)) (before now sink_before sink_now : ℕ) → smooth ≡ b → RunEnds smooth r left left_now held held_now before now sink_before sink_now → RunEnds b r left left_now held held_now before now sink_before sink_now
+  ends_for b r left left_now held held_now before now sink_before sink_now same h =
+      let F : Bool → Type 0 = λ c. RunEnds c r left left_now held held_now before now sink_before sink_now in
+      subst F same h

@@ -1,7 +1,8 @@
 -- A session goes on standing for the lines that were read.
-use Rattle.std.proofs.Common.{◌≡◌, ℕ, ◌+◌, ◌<◌, ◌≤◌, ◌^◌, List, [], length, refl, sym, ap, subst, ◌∙◌, arith}
+use Rattle.std.proofs.Common.{◌≡◌, ℕ, ◌+◌, ◌<◌, ◌≤◌, ◌^◌, List, [], ◌∷◌, length, length-append, refl, sym, ap, subst, ◌∙◌, arith}
 use Rattle.std.specs.Prelude.{Bool, true, Option, Some, None, Result, Ok, Err, OnOk}
-use Rattle.apsp_model.specs.Command.{Update}
+use Rattle.apsp_model.specs.Command.{Update, graph_of}
+use Rattle.apsp_model.specs.Graph.{Graph}
 use Rattle.apsp_model.specs.Star.{Star}
 use Rattle.history_engine.specs.Seen.{Seen}
 use Rattle.history_engine.specs.Advance.{Stands, Advance}
@@ -10,8 +11,8 @@ use Rattle.script_reader.specs.Meaning.{line_of}
 use Rattle.script_reader.specs.Refused.{Refusal}
 use Rattle.script_reader.specs.declared.Line.{Line}
 use Rattle.script_reader.specs.declared.Line.TheVariants as line
-use Rattle.apsp_service.specs.Session.{State, context_of, accepted, counted, updated, after_read, after_line}
-use Rattle.apsp_service.specs.Giving.{HasNetwork, IsNetworkOf, IsReady, StandFor}
+use Rattle.apsp_service.specs.Session.{State, context_of, present_graph, star_with, accepted, counted, updated, after_read, after_line}
+use Rattle.apsp_service.specs.Giving.{HasNetwork, IsNetworkOf, IsReady, StandFor, GrowsBy}
 
 pub ready_of : (seen : Option Seen) (s : State) → HasNetwork seen s → s.lines < 2 ^ 40 → IsReady seen
 ready_of None s h few = tt
@@ -76,5 +77,30 @@ advanced (Ok u) before after s star h a = record {
   vertices = h.vertices ∙ sym a.opening;
   smooth = a.smooth ∙ h.smooth;
   stands = law before after (Update star) s.commands a h.stands;
-  few = ?;
+  few = omega (arith, ap length a.vertices, length-append before.vertices (star.vertex ∷ []), h.few);
 }
+
+-- the graph that the network has
+graph_is : (e : Seen) (s : State) → IsNetworkOf e s → e.graph ≡ graph_of s.vertices s.commands
+graph_is e s h = h.stands.outline.graph ∙ ap (λ n. graph_of n s.commands) (sym h.vertices)
+
+-- an update of one edge was made
+pub edge_advanced : {E : Type 0} (r : Result (Unit {0}) E) (before after : Seen) (s : State) (u v : ℕ) (w : Option ℕ) → IsNetworkOf before s → OnOk r (Advance before (Update (star_with before.graph u v w)) after) → OnOk r (IsNetworkOf after (updated (counted s) (star_with (present_graph (counted s)) u v w)))
+edge_advanced r before after s u v w h a =
+    let F : Graph → Type 0 = λ g. OnOk r (IsNetworkOf after (updated (counted s) (star_with g u v w))) in
+    subst F (graph_is before s h) (advanced r before after s (star_with before.graph u v w) h a)
+
+-- what is said of the network's graph holds of that of the commands
+pub of_graph : {E : Type 0} (r : Result (Unit {0}) E) (P : Graph → List ℕ → Type 0) (e : Seen) (s : State) (old new : List ℕ) → IsNetworkOf e s → OnOk r (GrowsBy (P e.graph) old new) → OnOk r (GrowsBy (P (graph_of s.vertices s.commands)) old new)
+of_graph r P e s old new h grows = let F : Graph → Type 0 = λ g. OnOk r (GrowsBy (P g) old new) in subst F (graph_is e s h) grows
+
+-- what is said of the network's number of vertices and smoothing holds of those of the state
+pub of_network : {E : Type 0} (r : Result (Unit {0}) E) (P : ℕ → Bool → List ℕ → Type 0) (e : Seen) (s : State) (old new : List ℕ) → IsNetworkOf e s → OnOk r (GrowsBy (P e.opening e.smooth) old new) → OnOk r (GrowsBy (P s.vertices s.smooth) old new)
+of_network r P e s old new h grows =
+    let F : ℕ → Type 0 = λ n. OnOk r (GrowsBy (P n e.smooth) old new) in
+    let G : Bool → Type 0 = λ b. OnOk r (GrowsBy (P s.vertices b) old new) in
+    subst G h.smooth (subst F (sym h.vertices) grows)
+
+pub stays : {E : Type 0} (r : Result (Unit {0}) E) (e : Seen) (s : State) → IsNetworkOf e s → OnOk r (IsNetworkOf e (counted s))
+stays (Err error) e s h = tt
+stays (Ok u) e s h = later e s h

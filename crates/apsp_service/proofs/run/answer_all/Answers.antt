@@ -3,7 +3,7 @@ use Rattle.apsp_service.proofs.Ran.{all_stops, all_taken, more_taken}
 use Rattle.apsp_service.proofs.run.answer_all.Goals as goal
 
 pub answer_piece-requires-clause-stands : goal.answer_piece-requires-clause-stands
-answer_piece-requires-clause-stands g c = (_, _, c.loop-count.invariant.0.1.after)
+answer_piece-requires-clause-stands g c κs within = (_, _, c.loop-count.invariant.0.1.after)
 
 pub returns-in_err-count-clause-ends : goal.returns-in_err-count-clause-ends
 returns-in_err-count-clause-ends g c =

@@ -3,7 +3,7 @@ use Rattle.apsp_service.proofs.Taken.{takes_open, takes_whole, front_stops, cut_
 use Rattle.apsp_service.proofs.session.Session.answer_front.Goals as goal
 
 pub answer_line-requires-clause-stands : goal.answer_line-requires-clause-stands
-answer_line-requires-clause-stands g c = (c.requires.stands.0, c.requires.stands.2.stands)
+answer_line-requires-clause-stands g c κs within = (c.requires.stands.0, c.requires.stands.2.stands)
 
 pub returns-in_err-answer_line-clause-takes : goal.returns-in_err-answer_line-clause-takes
 returns-in_err-answer_line-clause-takes g c = λ s content at.

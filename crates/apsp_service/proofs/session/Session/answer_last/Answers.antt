@@ -4,7 +4,7 @@ use Rattle.apsp_service.proofs.Taken.{last_gives, last_refused}
 use Rattle.apsp_service.proofs.session.Session.answer_last.Goals as goal
 
 pub answer_line-requires-clause-stands : goal.answer_line-requires-clause-stands
-answer_line-requires-clause-stands g c = (c.requires.stands.0, c.requires.stands.2.stands)
+answer_line-requires-clause-stands g c κs within = (c.requires.stands.0, c.requires.stands.2.stands)
 
 pub returns-else-is_line_empty-clause-gives : goal.returns-else-is_line_empty-clause-gives
 returns-else-is_line_empty-clause-gives g c = λ s content at.
