@@ -196,14 +196,15 @@ module _ (smooth : Bool) where
   stops_at_end stop.Memory left left_now held held_now before now sink_before sink_now bytes taken last few h = (bytes, among_all left left_now held held_now bytes taken last few h)
   stops_at_end stop.Limit left left_now held held_now before now sink_before sink_now bytes taken last few h = absurd h
 
-  pub run_stops_last : (r : Result Bool Stop) (e : Stop) (session : Session) (left left_now held held_mid held_now : Option (List ℕ)) (before now sink_first sink_before sink_now : ℕ) (bytes : List ℕ) → IsErrAnd r (λ y. y ≡ e) → AtEnd smooth session left left_now held held_mid bytes → sink_first ≤ sink_before → ((s : State) (content : List ℕ) → IsAt session s content → StopsAmong e held_mid held_now sink_before sink_now s (line_if_some content)) → RunEnds smooth r left left_now held held_now before now sink_first sink_now
-  run_stops_last (Ok a) e session left left_now held held_mid held_now before now sink_first sink_before sink_now bytes h end l stops = absurd h
-  run_stops_last (Err y) e session left left_now held held_mid held_now before now sink_first sink_before sink_now bytes h end l stops =
-      let F : Stop → Type 0 = λ z. StopsRun smooth z left left_now held held_now before now sink_first sink_now in
+  pub run_stops_last : (b : Bool) (r : Result Bool Stop) (e : Stop) (session : Session) (left left_now held held_mid held_now : Option (List ℕ)) (before now sink_first sink_before sink_now : ℕ) (bytes : List ℕ) → smooth ≡ b → IsErrAnd r (λ y. y ≡ e) → AtEnd smooth session left left_now held held_mid bytes → sink_first ≤ sink_before → ((s : State) (content : List ℕ) → IsAt session s content → StopsAmong e held_mid held_now sink_before sink_now s (line_if_some content)) → RunEnds b r left left_now held held_now before now sink_first sink_now
+  run_stops_last b (Ok a) e session left left_now held held_mid held_now before now sink_first sink_before sink_now bytes same h end l stops = absurd h
+  run_stops_last b (Err y) e session left left_now held held_mid held_now before now sink_first sink_before sink_now bytes same h end l stops =
+      let F : Stop → Type 0 = λ z. StopsRun b z left left_now held held_now before now sink_first sink_now in
+      let H : Bool → Type 0 = λ c. StopsRun c e left left_now held held_now before now sink_first sink_now in
       let G : List (List ℕ) → Type 0 = λ ls. StopsAmong e held held_now sink_first sink_now (opening smooth) ls in
       let stop : StopsAmong e held held_now sink_first sink_now (opening smooth) (lines_of bytes) =
       subst G (sym (lines_at_end bytes)) (stops_behind e held held_mid held_now sink_first sink_before sink_now (opening smooth) (lines_from [] bytes) (line_if_some (rest_from [] bytes)) end.so_far.gave l (stops _ _ end.so_far.after)) in
-      subst F (sym h) (stops_at_end e left left_now held held_now before now sink_first sink_now bytes end.so_far.taken end.last end.few stop)
+      subst F (sym h) (subst H same (stops_at_end e left left_now held held_now before now sink_first sink_now bytes end.so_far.taken end.last end.few stop))
 
   pub ran_to_end : (session : Session) (left left_now held held_mid held_now : Option (List ℕ)) (some_refused : Bool) (bytes : List ℕ) → AtEnd smooth session left left_now held held_mid bytes → ((s : State) (content : List ℕ) → IsAt session s content → Gave held_mid held_now s (line_if_some content)) → ((s : State) (content : List ℕ) → IsAt session s content → some_refused ≡ (after_lines s (line_if_some content)).refused) → (all : List ℕ) × RanToEnd smooth left left_now held held_now some_refused all
   ran_to_end session left left_now held held_mid held_now some_refused bytes end gives refuses =
@@ -222,7 +223,7 @@ module _ (smooth : Bool) where
       )
 
   -- the same for an equal flag
-  pub ends_for : (b : Bool) (r : Result Bool Stop) (left left_now held held_now : Option (List ℕ)) (before now sink_before sink_now : ℕ) → smooth ≡ b → RunEnds smooth r left left_now held held_now before now sink_before sink_now → RunEnds b r left left_now held held_now before now sink_before sink_now
-  ends_for b r left left_now held held_now before now sink_before sink_now same h =
-      let F : Bool → Type 0 = λ c. RunEnds c r left left_now held held_now before now sink_before sink_now in
+  pub ran_for : (b : Bool) (left left_now held held_now : Option (List ℕ)) (some_refused : Bool) → smooth ≡ b → (bytes : List ℕ) × RanToEnd smooth left left_now held held_now some_refused bytes → (bytes : List ℕ) × RanToEnd b left left_now held held_now some_refused bytes
+  ran_for b left left_now held held_now some_refused same h =
+      let F : Bool → Type 0 = λ c. (bytes : List ℕ) × RanToEnd c left left_now held held_now some_refused bytes in
       subst F same h

@@ -46,30 +46,6 @@ line_stands (Ok u) s content l seen cleans count some_refused reading h smooth l
     let k : Keeps (counted s) (accepted (counted s) l) = accepted_keeps (counted s) l in
     subst F (sym reading) (record { network = h; smooth = smooth ∙ sym k.smooth; lines = lines ∙ sym k.lines; refused = refused ∙ sym k.refused })
 
--- the network is that of the state also after more lines
-has_later : (seen : Option Seen) (s t : State) → t.vertices ≡ s.vertices → t.smooth ≡ s.smooth → t.commands ≡ s.commands → s.lines ≤ t.lines → HasNetwork seen s → HasNetwork seen t
-has_later None s t vertices smooth commands later h = (vertices ∙ h.0, commands ∙ h.1)
-has_later (Some e) s t vertices smooth commands later h = record {
-  vertices = vertices ∙ h.vertices;
-  smooth = h.smooth ∙ sym smooth;
-  stands = subst (Stands e) (sym commands) h.stands;
-  few = omega (arith, h.few, later);
-}
-
-pub refusal_stands : {E : Type 0} (r : Result (Unit {0}) E) (s : State) (content : List ℕ) (refusal : Refusal) (seen : Option Seen) (cleans : Bool) (count old : ℕ) (some_refused : Bool) → line_of (context_of s) content ≡ Err refusal → StandFor seen cleans old some_refused s → count ≡ old + 1 → OnOk r (StandFor seen cleans count true (after_line s content))
-refusal_stands (Err e) s content refusal seen cleans count old some_refused reading stands lines = tt
-refusal_stands (Ok u) s content refusal seen cleans count old some_refused reading stands lines =
-    let F : Result Line Refusal → Type 0 = λ read. StandFor seen cleans count true (after_read s read) in
-    let t : State = after_read s (Err refusal) in
-    subst F (sym reading) (record { network = has_later seen s t refl refl refl (omega arith) stands.network; smooth = stands.smooth; lines = omega (arith, lines, stands.lines); refused = refl })
-
--- a network that is begun
-pub begun : (e : Seen) (s : State) (n : ℕ) → e.opening ≡ n → e.smooth ≡ s.smooth → Stands e [] → IsNetworkOf e (accepted (counted s) (line.Vertices n))
-begun e s n opening smooth stands = record { vertices = sym opening; smooth = smooth; stands = stands; few = omega (arith, ap length stands.outline.vertices) }
-
-pub later : (e : Seen) (s : State) → IsNetworkOf e s → IsNetworkOf e (counted s)
-later e s h = has_later (Some e) s (counted s) refl refl refl (omega arith) h
-
 -- an update was made
 pub advanced : {E : Type 0} (r : Result (Unit {0}) E) (before after : Seen) (s : State) (star : Star) → IsNetworkOf before s → OnOk r (Advance before (Update star) after) → OnOk r (IsNetworkOf after (updated (counted s) star))
 advanced (Err e) before after s star h a = tt
@@ -90,17 +66,9 @@ edge_advanced r before after s u v w h a =
     let F : Graph → Type 0 = λ g. OnOk r (IsNetworkOf after (updated (counted s) (star_with g u v w))) in
     subst F (graph_is before s h) (advanced r before after s (star_with before.graph u v w) h a)
 
--- what is said of the network's graph holds of that of the commands
-pub of_graph : {E : Type 0} (r : Result (Unit {0}) E) (P : Graph → List ℕ → Type 0) (e : Seen) (s : State) (old new : List ℕ) → IsNetworkOf e s → OnOk r (GrowsBy (P e.graph) old new) → OnOk r (GrowsBy (P (graph_of s.vertices s.commands)) old new)
-of_graph r P e s old new h grows = let F : Graph → Type 0 = λ g. OnOk r (GrowsBy (P g) old new) in subst F (graph_is e s h) grows
-
 -- what is said of the network's number of vertices and smoothing holds of those of the state
 pub of_network : {E : Type 0} (r : Result (Unit {0}) E) (P : ℕ → Bool → List ℕ → Type 0) (e : Seen) (s : State) (old new : List ℕ) → IsNetworkOf e s → OnOk r (GrowsBy (P e.opening e.smooth) old new) → OnOk r (GrowsBy (P s.vertices s.smooth) old new)
 of_network r P e s old new h grows =
     let F : ℕ → Type 0 = λ n. OnOk r (GrowsBy (P n e.smooth) old new) in
     let G : Bool → Type 0 = λ b. OnOk r (GrowsBy (P s.vertices b) old new) in
     subst G h.smooth (subst F (sym h.vertices) grows)
-
-pub stays : {E : Type 0} (r : Result (Unit {0}) E) (e : Seen) (s : State) → IsNetworkOf e s → OnOk r (IsNetworkOf e (counted s))
-stays (Err error) e s h = tt
-stays (Ok u) e s h = later e s h

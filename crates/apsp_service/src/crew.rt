@@ -18,12 +18,13 @@ const MOST_WORKERS: u32 = 64;
 #[derive(Drop)]
 pub struct Crew<'a, R, G> {
     rt: &'a R,
+    // Any number: an update brings it into range.
     workers: u32,
     gate: &'a G,
 }
 
 impl<'a, R: Threads + Sync, G: Gate> Crew<'a, R, G> {
-    /// So many workers; of a number outside 1 to 64 the nearest in it.
+    /// So many workers, or where there may not be so many the nearest number that may.
     pub fn new(rt: &'a R, workers: u32, gate: &'a G) -> Crew<'a, R, G> {
         Crew { rt, workers, gate }
     }

@@ -1,4 +1,4 @@
-use Rattle.std.proofs.Common.{List, ℕ, ◌∙◌, subst}
+use Rattle.std.proofs.Common.{List, ℕ, subst}
 use Rattle.std.specs.Prelude.{Some, None, OnOk, string_bytes}
 use Rattle.apsp_service.specs.Age.{IsAgeReply}
 use Rattle.apsp_service.specs.Giving.{GrowsBy}
@@ -17,4 +17,4 @@ returns-in-Cut-clause-stands g c = λ s is. rw c.in-Cut.is (edge_advanced _ _ _ 
 pub returns-in-Age-clause-reply : goal.returns-in-Age-clause-reply
 returns-in-Age-clause-reply g c = λ s is.
     let P : List ℕ → Type 0 = λ list. OnOk c.put_age.result (GrowsBy (IsAgeReply s.vertices s.smooth s.commands list) (string_bytes c.args.text.now) (string_bytes c.put_age.new.text)) in
-    rw c.in-Age.is (subst P (c.items.ensures ∙ c.list.view_is) (of_network _ (λ n smooth. IsAgeReply n smooth s.commands c.items.result.now) _ s _ _ is (c.put_age.ensures s.commands is.stands)))
+    rw c.in-Age.is (subst P c.items.ensures (of_network _ (λ n smooth. IsAgeReply n smooth s.commands c.items.result.now) _ s _ _ is (c.put_age.ensures s.commands is.stands)))

@@ -1,6 +1,6 @@
 use Rattle.std.proofs.Common.{◌+◌, ◌∙◌, ap, arith}
 use Rattle.apsp_service.proofs.Given.{line_replied}
-use Rattle.apsp_service.proofs.Standing.{ready_of, line_stands, refusal_stands}
+use Rattle.apsp_service.proofs.Standing.{ready_of, line_stands}
 use Rattle.apsp_service.proofs.session.Session.answer.Goals as goal
 
 pub obey-requires-clause-ready : goal.obey-requires-clause-ready
