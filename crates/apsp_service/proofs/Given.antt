@@ -4,12 +4,13 @@ use Rattle.std.specs.Prelude.{Option, Some, None, Result, Ok, Err, OnOk, IsErrAn
 use Rattle.std.specs.Io.KnownBytes.{Appends}
 use Rattle.std.proofs.lemmas.List.{take-append-drop}
 use Rattle.apsp_io.specs.Streams.{Rose}
+use Rattle.script_reader.specs.Meaning.{line_of}
 use Rattle.script_reader.specs.Refused.{Refusal}
 use Rattle.script_reader.specs.declared.Line.{Line}
 use Rattle.apsp_service.specs.declared.stop.Stop.{Stop}
 use Rattle.apsp_service.specs.declared.stop.Stop.TheVariants as stop
-use Rattle.apsp_service.specs.Session.{State, HasAnswer, LineHasReply, HaveReplies, reading_of, after_lines}
-use Rattle.apsp_service.specs.Giving.{Gave, GaveFront, StopsAmong, GivingEnds, TextGiven, AppendsReply}
+use Rattle.apsp_service.specs.Session.{State, HasAnswer, LineHasReply, HasReply, HaveReplies, context_of, after_lines}
+use Rattle.apsp_service.specs.Giving.{Gave, GaveFront, StopsAmong, GivingEnds, TextGiven, GrowsBy}
 use Rattle.apsp_service.proofs.Replied.{replies_append, one_reply, front_of_more, front_behind, front_none}
 
 pub appends_nothing : (old : Option (List ℕ)) → Appends old old []
@@ -27,7 +28,7 @@ rose_later before mid after now a r b = omega arith
 
 -- ---- one line
 
-pub line_replied : {E : Type 0} (r : Result (Unit {0}) E) (s : State) (content : List ℕ) (l : Line) (old new : List ℕ) → reading_of s content ≡ Ok l → old ≡ [] → OnOk r (AppendsReply s.vertices s.commands l old new) → OnOk r (LineHasReply s content new)
+pub line_replied : {E : Type 0} (r : Result (Unit {0}) E) (s : State) (content : List ℕ) (l : Line) (old new : List ℕ) → line_of (context_of s) content ≡ Ok l → old ≡ [] → OnOk r (GrowsBy (HasReply s.vertices s.smooth s.commands l) old new) → OnOk r (LineHasReply s content new)
 line_replied (Err e) s content l old new reading none h = tt
 line_replied (Ok u) s content l old new reading none h =
     let reply_is : h.0 ≡ new = sym (h.2 ∙ ap (λ o. o ++ h.0) none) in

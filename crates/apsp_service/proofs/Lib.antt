@@ -1,8 +1,9 @@
-pub mod RoundsMade
 pub mod Lines
 pub mod Replied
+pub mod Texts
 pub mod LineReads
 pub mod Given
+pub mod Standing
 pub mod Taken
 pub mod Ran
 pub mod Outcomes

@@ -7,11 +7,9 @@ use Rattle.script_reader.specs.Meaning.{line_of}
 use Rattle.script_reader.specs.Answer.{IsAnswer}
 use Rattle.script_reader.specs.declared.Context.{Context}
 use Rattle.script_reader.specs.declared.Line.{Line}
-use Rattle.script_reader.specs.declared.Line.TheVariants as line
 use Rattle.script_reader.specs.declared.LineError.{LineError}
 use Rattle.script_reader.specs.declared.TheConstants.{MOST_LINE_BYTES}
 use Rattle.script_reader.specs.Cutter.{Cutting, StandsFor}
-use Rattle.apsp_service.specs.Session.{served}
 
 content_is : (cutter : Cutting) (content bytes : List ℕ) → StandsFor cutter content → cutter.too_long ≡ false → bytes ≡ cutter.kept → bytes ≡ content
 content_is cutter content bytes has short is = is ∙ has.kept ∙ take_all MOST_LINE_BYTES content (ltb-false MOST_LINE_BYTES (length content) (sym has.too_long ∙ short))
@@ -21,18 +19,6 @@ read_is cutter content bytes context seen r has short is same answer =
     let P : List ℕ → Type 0 = λ b. IsAnswer (line_of seen b) r in
     let Q : Context → Type 0 = λ k. IsAnswer (line_of k bytes) r in
     subst P (content_is cutter content bytes has short is) (subst Q same answer)
-
-pub served_others : (l : Line) → ((x y : ℕ) → l ≡ line.Path x y → ⊥) → (l ≡ line.Stats → ⊥) → ((list : List ℕ) → l ≡ line.Age list → ⊥) → served l ≡ Ok l
-served_others line.Nothing path stats age = refl
-served_others (line.Vertices n) path stats age = refl
-served_others (line.Star star) path stats age = refl
-served_others (line.Edge u v w) path stats age = refl
-served_others (line.Cut u v) path stats age = refl
-served_others (line.Dist x y) path stats age = refl
-served_others (line.Path x y) path stats age = absurd (path x y refl)
-served_others (line.Row x) path stats age = refl
-served_others line.Stats path stats age = absurd (stats refl)
-served_others (line.Age list) path stats age = absurd (age list refl)
 
 -- the content is empty exactly where nothing is kept of it
 pub content_empty : (cutter : Cutting) (content : List ℕ) (empty : Bool) → StandsFor cutter content → empty ≡ (length cutter.kept == 0) → (IsTrue empty → content ≡ []) × (content ≡ [] → IsTrue empty)

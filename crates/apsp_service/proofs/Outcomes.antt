@@ -37,6 +37,9 @@ all_taken xs (Some ys) bytes taken last = taken ∙ ap (λ z. bytes ++ z) last �
 
 -- ---- the status of a session
 
+abbrev pub smooth_of : Mode → Bool
+smooth_of (mode.Run workers smooth) = smooth
+
 abbrev bit : Bool → ℕ
 bit false = 0
 bit true = 1
@@ -47,23 +50,23 @@ status_from true true e = refl
 status_from false true e = cc
 status_from true false e = cc
 
-session_of : (m : Mode) (bytes text : List ℕ) (refused : Bool) → HaveReplies opening (lines_of bytes) text → refused ≡ (after_lines opening (lines_of bytes)).refused → Session m bytes text (bit refused)
-session_of (mode.Run workers smooth) bytes text refused h e = (h, status_from refused (after_lines opening (lines_of bytes)).refused e)
+session_of : (m : Mode) (bytes text : List ℕ) (refused : Bool) → HaveReplies (opening (smooth_of m)) (lines_of bytes) text → refused ≡ (after_lines (opening (smooth_of m)) (lines_of bytes)).refused → Session m bytes text (bit refused)
+session_of (mode.Run workers smooth) bytes text refused h e = (h, status_from refused (after_lines (opening smooth) (lines_of bytes)).refused e)
 
-some_session : (m : Mode) (bytes text : List ℕ) → HaveReplies opening (lines_of bytes) text → (status : ℕ) × Session m bytes text status
-some_session (mode.Run workers smooth) bytes text h = (status_of (after_lines opening (lines_of bytes)), (h, refl))
+some_session : (m : Mode) (bytes text : List ℕ) → HaveReplies (opening (smooth_of m)) (lines_of bytes) text → (status : ℕ) × Session m bytes text status
+some_session (mode.Run workers smooth) bytes text h = (status_of (after_lines (opening smooth) (lines_of bytes)), (h, refl))
 
 -- an input has one status
 one_status : (m : Mode) (bytes t u : List ℕ) (a b : ℕ) → Session m bytes t a → Session m bytes u b → a ≡ b
 one_status (mode.Run workers smooth) bytes t u a b h k = h.1 ∙ sym k.1
 
-whole_replies : (m : Mode) (bytes text : List ℕ) → HaveReplies opening (lines_from [] bytes) text → HasWholeReplies m bytes text
-whole_replies (mode.Run workers smooth) bytes text h = let F : List (List ℕ) → Type 0 = λ ls. HaveReplies opening ls text in subst F (sym (whole_lines_is bytes)) h
+whole_replies : (m : Mode) (bytes text : List ℕ) → HaveReplies (opening (smooth_of m)) (lines_from [] bytes) text → HasWholeReplies m bytes text
+whole_replies (mode.Run workers smooth) bytes text h = let F : List (List ℕ) → Type 0 = λ ls. HaveReplies (opening smooth) ls text in subst F (sym (whole_lines_is bytes)) h
 
 -- ---- the outcome of each end
 
 module _ (m : Mode) (left left_now held held_now : Option (List ℕ)) (before now sink_before sink_now : ℕ) where
-  answered_of : (refused : Bool) (bytes : List ℕ) → RanToEnd left left_now held held_now refused bytes → IsAnswered m left left_now held held_now (bit refused)
+  answered_of : (refused : Bool) (bytes : List ℕ) → RanToEnd (smooth_of m) left left_now held held_now refused bytes → IsAnswered m left left_now held held_now (bit refused)
   answered_of refused bytes r = record {
     bytes = bytes;
     text = r.gave.0;
@@ -73,7 +76,7 @@ module _ (m : Mode) (left left_now held held_now : Option (List ℕ)) (before no
     session = session_of m bytes r.gave.0 refused r.gave.1 r.refused;
   }
 
-  early_of : (bytes : List ℕ) → StoppedAfter left left_now held held_now bytes → IsStoppedEarly m left left_now held held_now
+  early_of : (bytes : List ℕ) → StoppedAfter (smooth_of m) left left_now held held_now bytes → IsStoppedEarly m left left_now held held_now
   early_of bytes s = record { bytes = bytes; text = s.gave.0; taken = s.taken; given = s.gave.2; replies = whole_replies m (take MOST_INPUT bytes) s.gave.0 s.gave.1 }
 
   if_some : (P : List ℕ → Type 0) (o : Option (List ℕ)) → ((xs : List ℕ) → o ≡ Some xs → P xs) → IfSome o P
@@ -91,17 +94,17 @@ module _ (m : Mode) (left left_now held held_now : Option (List ℕ)) (before no
   neither : (refused : Bool) (j k : ℕ) → 1 < j → 1 < k → (bit refused ≡ j) ⊎ (bit refused ≡ k) → ⊥
   neither refused j k l i h = elim h [ inl e ↦ no_more refused j l e | inr e ↦ no_more refused k i e ]
 
-  input_is : (refused : Bool) (bytes input : List ℕ) → RanToEnd left left_now held held_now refused bytes → left ≡ Some input → input ≡ bytes
+  input_is : (refused : Bool) (bytes input : List ℕ) → RanToEnd (smooth_of m) left left_now held held_now refused bytes → left ≡ Some input → input ≡ bytes
   input_is refused bytes input r told = let F : Option (List ℕ) → Type 0 = λ o. Consumes o left_now bytes in all_taken input left_now bytes (subst F told r.taken) r.last
 
-  session_is : (refused : Bool) (bytes input : List ℕ) → RanToEnd left left_now held held_now refused bytes → left ≡ Some input → (text : List ℕ) × Appends held held_now text × Session m input text (bit refused)
+  session_is : (refused : Bool) (bytes input : List ℕ) → RanToEnd (smooth_of m) left left_now held held_now refused bytes → left ≡ Some input → (text : List ℕ) × Appends held held_now text × Session m input text (bit refused)
   unfolding answered_of
   session_is refused bytes input r told =
       let a = answered_of refused bytes r in
       let F : List ℕ → Type 0 = λ z. Session m z a.text (bit refused) in
       (a.text, a.given, subst F (sym (input_is refused bytes input r told)) a.session)
 
-  ok_outcome : (refused : Bool) (bytes : List ℕ) → RanToEnd left left_now held held_now refused bytes → IsOutcome m left left_now held held_now before now sink_before sink_now (bit refused)
+  ok_outcome : (refused : Bool) (bytes : List ℕ) → RanToEnd (smooth_of m) left left_now held held_now refused bytes → IsOutcome m left left_now held held_now before now sink_before sink_now (bit refused)
   ok_outcome refused bytes r = record {
     statuses = inl (read_to_end refused);
     answered = λ e. answered_of refused bytes r;
@@ -118,7 +121,7 @@ module _ (m : Mode) (left left_now held held_now : Option (List ℕ)) (before no
     takes = (bytes, r.taken, omega (arith, r.few));
   }
 
-  source_outcome : (bytes : List ℕ) → StoppedAfter left left_now held held_now bytes → length bytes ≤ MOST_INPUT → Rose before now → IsOutcome m left left_now held held_now before now sink_before sink_now 3
+  source_outcome : (bytes : List ℕ) → StoppedAfter (smooth_of m) left left_now held held_now bytes → length bytes ≤ MOST_INPUT → Rose before now → IsOutcome m left left_now held held_now before now sink_before sink_now 3
   source_outcome bytes s few rose = record {
     statuses = inr (inl refl);
     answered = λ e. absurd (elim e [ inl z ↦ omega (arith, z) | inr o ↦ omega (arith, o) ]);
@@ -133,7 +136,7 @@ module _ (m : Mode) (left left_now held held_now : Option (List ℕ)) (before no
     takes = (bytes, s.taken, omega (arith, few));
   }
 
-  limit_outcome : (bytes : List ℕ) → StoppedAfter left left_now held held_now bytes → length bytes ≡ MOST_INPUT + 1 → IsOutcome m left left_now held held_now before now sink_before sink_now 6
+  limit_outcome : (bytes : List ℕ) → StoppedAfter (smooth_of m) left left_now held held_now bytes → length bytes ≡ MOST_INPUT + 1 → IsOutcome m left left_now held held_now before now sink_before sink_now 6
   limit_outcome bytes s many = record {
     statuses = inr (inr (inr (inr refl)));
     answered = λ e. absurd (elim e [ inl z ↦ omega (arith, z) | inr o ↦ omega (arith, o) ]);
@@ -160,7 +163,7 @@ module _ (m : Mode) (left left_now held held_now : Option (List ℕ)) (before no
           omega (arith, ap length t.2, length-append bytes t.0, many)
 
   -- a front of what the session replies
-  short_of : (bytes : List ℕ) → StoppedAmong left left_now held held_now bytes → IfSome left (λ input. IsCutShort m input held held_now)
+  short_of : (bytes : List ℕ) → StoppedAmong (smooth_of m) left left_now held held_now bytes → IfSome left (λ input. IsCutShort m input held held_now)
   short_of bytes s = if_some (λ input. IsCutShort m input held held_now) left short
     where
       short : (input : List ℕ) → left ≡ Some input → IsCutShort m input held held_now
@@ -168,11 +171,11 @@ module _ (m : Mode) (left left_now held held_now : Option (List ℕ)) (before no
           let F : Option (List ℕ) → Type 0 = λ o. Consumes o left_now bytes in
           let t = taken_is input left_now bytes (subst F told s.taken) in
           let f = s.front t.0 t.1 in
-          let G : List ℕ → Type 0 = λ z. HaveReplies opening (lines_of (take MOST_INPUT z)) (f.0 ++ f.1.0) in
+          let G : List ℕ → Type 0 = λ z. HaveReplies (opening (smooth_of m)) (lines_of (take MOST_INPUT z)) (f.0 ++ f.1.0) in
           let session = some_session m (take MOST_INPUT input) (f.0 ++ f.1.0) (subst G (sym t.2) f.1.1) in
           record { front = f.0; rest = f.1.0; status = session.0; given = f.2; session = session.1 }
 
-  sink_outcome : (bytes : List ℕ) → StoppedAmong left left_now held held_now bytes → Rose sink_before sink_now → IsOutcome m left left_now held held_now before now sink_before sink_now 4
+  sink_outcome : (bytes : List ℕ) → StoppedAmong (smooth_of m) left left_now held held_now bytes → Rose sink_before sink_now → IsOutcome m left left_now held held_now before now sink_before sink_now 4
   sink_outcome bytes s rose = record {
     statuses = inr (inr (inl refl));
     answered = λ e. absurd (elim e [ inl z ↦ omega (arith, z) | inr o ↦ omega (arith, o) ]);
@@ -187,7 +190,7 @@ module _ (m : Mode) (left left_now held held_now : Option (List ℕ)) (before no
     takes = (bytes, s.taken, s.few);
   }
 
-  memory_outcome : (bytes : List ℕ) → StoppedAmong left left_now held held_now bytes → IsOutcome m left left_now held held_now before now sink_before sink_now 5
+  memory_outcome : (bytes : List ℕ) → StoppedAmong (smooth_of m) left left_now held held_now bytes → IsOutcome m left left_now held held_now before now sink_before sink_now 5
   memory_outcome bytes s = record {
     statuses = inr (inr (inr (inl refl)));
     answered = λ e. absurd (elim e [ inl z ↦ omega (arith, z) | inr o ↦ omega (arith, o) ]);
@@ -202,7 +205,7 @@ module _ (m : Mode) (left left_now held held_now : Option (List ℕ)) (before no
     takes = (bytes, s.taken, s.few);
   }
 
-pub outcome_of : (m : Mode) (left left_now held held_now : Option (List ℕ)) (before now sink_before sink_now : ℕ) (r : Result Bool Stop) → RunEnds r left left_now held held_now before now sink_before sink_now → IsOutcome m left left_now held held_now before now sink_before sink_now (status_after r)
+pub outcome_of : (m : Mode) (left left_now held held_now : Option (List ℕ)) (before now sink_before sink_now : ℕ) (r : Result Bool Stop) → RunEnds (smooth_of m) r left left_now held held_now before now sink_before sink_now → IsOutcome m left left_now held held_now before now sink_before sink_now (status_after r)
 outcome_of m left left_now held held_now before now sink_before sink_now (Ok false) h = ok_outcome m left left_now held held_now before now sink_before sink_now false h.0 h.1
 outcome_of m left left_now held held_now before now sink_before sink_now (Ok true) h = ok_outcome m left left_now held held_now before now sink_before sink_now true h.0 h.1
 outcome_of m left left_now held held_now before now sink_before sink_now (Err stop.Source) h = source_outcome m left left_now held held_now before now sink_before sink_now h.0.0 h.0.1 h.0.2 h.1
@@ -210,7 +213,8 @@ outcome_of m left left_now held held_now before now sink_before sink_now (Err st
 outcome_of m left left_now held held_now before now sink_before sink_now (Err stop.Memory) h = memory_outcome m left left_now held held_now before now sink_before sink_now h.0 h.1
 outcome_of m left left_now held held_now before now sink_before sink_now (Err stop.Limit) h = limit_outcome m left left_now held held_now before now sink_before sink_now h.0 h.1 h.2
 
-pub outcome_at : (m : Mode) (left left_now held held_now : Option (List ℕ)) (before now sink_before sink_now status : ℕ) (r : Result Bool Stop) → status ≡ status_after r → RunEnds r left left_now held held_now before now sink_before sink_now → IsOutcome m left left_now held held_now before now sink_before sink_now status
-outcome_at m left left_now held held_now before now sink_before sink_now status r is h =
+pub outcome_at : (m : Mode) (smooth : Bool) (left left_now held held_now : Option (List ℕ)) (before now sink_before sink_now status : ℕ) (r : Result Bool Stop) → smooth ≡ smooth_of m → status ≡ status_after r → RunEnds smooth r left left_now held held_now before now sink_before sink_now → IsOutcome m left left_now held held_now before now sink_before sink_now status
+outcome_at m smooth left left_now held held_now before now sink_before sink_now status r same is h =
     let F : ℕ → Type 0 = λ z. IsOutcome m left left_now held held_now before now sink_before sink_now z in
-    subst F (sym is) (outcome_of m left left_now held held_now before now sink_before sink_now r h)
+    let G : Bool → Type 0 = λ b. RunEnds b r left left_now held held_now before now sink_before sink_now in
+    subst F (sym is) (outcome_of m left left_now held held_now before now sink_before sink_now r (subst G same h))

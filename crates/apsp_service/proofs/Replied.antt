@@ -1,19 +1,22 @@
 -- Replies to lines, one after another; there always are some, and no others.
 use Rattle.std.proofs.Common.{◌≡◌, ℕ, zero, suc, ◌+◌, ◌<◌, List, [], ◌∷◌, ◌++◌, length, get_or, refl, sym, ap, subst, ◌∙◌, arith, inl, inr, append_assoc, append-nil, length-append}
-use Rattle.std.specs.Prelude.{Option, Some, None, Result, Ok, Err}
+use Rattle.std.specs.Prelude.{Bool, Option, Some, None, Result, Ok, Err}
 use Rattle.std.proofs.lemmas.Bool.{cases_lt}
 use Rattle.std.proofs.Math.ListN.{get_or-append}
 use Rattle.std.proofs.Math.Seq.{get_or-append_seam}
 use Rattle.apsp_model.specs.Graph.{Graph}
 use Rattle.apsp_model.specs.Command.{Command, graph_of}
 use Rattle.apsp_model.specs.Walk.{weight_of}
-use Rattle.apsp_model.proofs.Exists.{least_or_none}
+use Rattle.apsp_model.proofs.Exists.{least_or_none, least_is_some_option}
+use Rattle.history_engine.proofs.Existing.{counts_exist, birth_exists}
+use Rattle.apsp_service.specs.Age.{IsAgeReply}
 use Rattle.apsp_service.specs.Distance.{IsDistance}
-use Rattle.apsp_service.specs.Replies.{dist_text, row_text, error_text}
+use Rattle.apsp_service.specs.Replies.{dist_text, row_text, path_text, stats_text, age_text, error_text}
+use Rattle.script_reader.specs.Meaning.{line_of}
 use Rattle.script_reader.specs.Refused.{Refusal}
 use Rattle.script_reader.specs.declared.Line.{Line}
 use Rattle.script_reader.specs.declared.Line.TheVariants as line
-use Rattle.apsp_service.specs.Session.{State, HasReply, HasAnswer, LineHasReply, HaveReplies, after_line, after_lines, reading_of}
+use Rattle.apsp_service.specs.Session.{State, HasReply, HasAnswer, LineHasReply, HaveReplies, after_line, after_lines, context_of}
 use Rattle.apsp_service.specs.Giving.{IsFrontOfReplies}
 
 -- ---- there are replies
@@ -22,50 +25,64 @@ pub distance_exists : (g : Graph) (x y : ℕ) → (d : Option ℕ) × IsDistance
 distance_exists g x y = elim (least_or_none g x y) [ inl p ↦ (Some (weight_of g p.0), (p.0, p.1, refl)) | inr none ↦ (None, none) ]
 
 -- the first n of them
-record FirstRow (g : Graph) (x n : ℕ) : Type 0 where
-  row : List (Option ℕ)
-  size : length row ≡ n
-  each : (y : ℕ) → y < n → IsDistance g x y (get_or row y None)
+pub record IsFirstRow (g : Graph) (x n : ℕ) (row : List (Option ℕ)) : Type 0 where
+  pub size : length row ≡ n
+  pub each : (y : ℕ) → y < n → IsDistance g x y (get_or row y None)
 
-row_more : (g : Graph) (x n : ℕ) (d : Option ℕ) → FirstRow g x n → IsDistance g x n d → FirstRow g x (suc n)
-row_more g x n d r is = record { row = r.row ++ d ∷ []; size = omega (arith, length-append r.row (d ∷ []), r.size); each = each }
+pub row_none : (g : Graph) (x : ℕ) → IsFirstRow g x 0 []
+row_none g x = record { size = refl; each = λ y l. absurd (omega arith) }
+
+pub row_more : (g : Graph) (x n : ℕ) (d : Option ℕ) (row : List (Option ℕ)) → IsFirstRow g x n row → IsDistance g x n d → IsFirstRow g x (n + 1) (row ++ d ∷ [])
+row_more g x n d row r is = record { size = omega (arith, length-append row (d ∷ []), r.size); each = each }
   where
-    each : (y : ℕ) → y < suc n → IsDistance g x y (get_or (r.row ++ d ∷ []) y None)
+    each : (y : ℕ) → y < n + 1 → IsDistance g x y (get_or (row ++ d ∷ []) y None)
     each y l = elim (cases_lt y n) [
-      | inl less ↦ subst (IsDistance g x y) (sym (get_or-append r.row (d ∷ []) None y (omega (arith, r.size)))) (r.each y less)
+      | inl less ↦ subst (IsDistance g x y) (sym (get_or-append row (d ∷ []) None y (omega (arith, r.size)))) (r.each y less)
       | inr more ↦
-          let same : y ≡ length r.row = omega (arith, r.size) in
+          let same : y ≡ length row = omega (arith, r.size) in
           let at_n : n ≡ y = omega arith in
-          let found : get_or (r.row ++ d ∷ []) y None ≡ d = ap (λ k. get_or (r.row ++ d ∷ []) k None) same ∙ get_or-append_seam r.row d [] None in
+          let found : get_or (row ++ d ∷ []) y None ≡ d = ap (λ k. get_or (row ++ d ∷ []) k None) same ∙ get_or-append_seam row d [] None in
           subst (IsDistance g x y) (sym found) (subst (λ k. IsDistance g x k d) at_n is)
     ]
 
-row_exists : (g : Graph) (x n : ℕ) → FirstRow g x n
-row_exists g x zero = record { row = []; size = refl; each = λ y l. absurd (omega arith) }
-row_exists g x (suc n) = let d = distance_exists g x n in row_more g x n d.0 (row_exists g x n) d.1
+row_exists : (g : Graph) (x n : ℕ) → (row : List (Option ℕ)) × IsFirstRow g x n row
+row_exists g x zero = ([], row_none g x)
+row_exists g x (suc n) =
+    let d = distance_exists g x n in
+    let r = row_exists g x n in
+    let one : n + 1 ≡ suc n = omega arith in
+    let F : ℕ → Type 0 = λ k. IsFirstRow g x k (r.0 ++ d.0 ∷ []) in
+    (r.0 ++ d.0 ∷ [], subst F one (row_more g x n d.0 r.0 r.1 d.1))
 
-reply_exists : (n : ℕ) (commands : List Command) (l : Line) → (text : List ℕ) × HasReply n commands l text
-reply_exists n commands line.Nothing = ([], refl)
-reply_exists n commands (line.Vertices m) = ([], refl)
-reply_exists n commands (line.Star star) = ([], refl)
-reply_exists n commands (line.Edge u v w) = ([], refl)
-reply_exists n commands (line.Cut u v) = ([], refl)
-reply_exists n commands (line.Dist x y) = let d = distance_exists (graph_of n commands) x y in (dist_text x y d.0, (d.0, d.1, refl))
-reply_exists n commands (line.Path x y) = ([], refl)
-reply_exists n commands (line.Row x) =
+age_exists : (n : ℕ) (smooth : Bool) (commands : List Command) (list : List ℕ) → (text : List ℕ) × IsAgeReply n smooth commands list text
+age_exists n smooth commands list = elim (birth_exists n smooth commands list) [
+  | inl b ↦ (age_text list (Some b.0), (Some b.0, b.1, refl))
+  | inr none ↦ (age_text list None, (None, none, refl))
+]
+
+reply_exists : (n : ℕ) (smooth : Bool) (commands : List Command) (l : Line) → (text : List ℕ) × HasReply n smooth commands l text
+reply_exists n smooth commands line.Nothing = ([], refl)
+reply_exists n smooth commands (line.Vertices m) = ([], refl)
+reply_exists n smooth commands (line.Star star) = ([], refl)
+reply_exists n smooth commands (line.Edge u v w) = ([], refl)
+reply_exists n smooth commands (line.Cut u v) = ([], refl)
+reply_exists n smooth commands (line.Dist x y) = let d = distance_exists (graph_of n commands) x y in (dist_text x y d.0, (d.0, d.1, refl))
+reply_exists n smooth commands (line.Path x y) =
+    let walk = least_is_some_option (graph_of n commands) x y in (path_text (graph_of n commands) x y walk.0, (walk.0, walk.1, refl))
+reply_exists n smooth commands (line.Row x) =
     let r = row_exists (graph_of n commands) x (graph_of n commands).vertices in
-    (row_text x r.row, (r.row, record { size = r.size; each = r.each }, refl))
-reply_exists n commands line.Stats = ([], refl)
-reply_exists n commands (line.Age list) = ([], refl)
+    (row_text x r.0, (r.0, record { size = r.1.size; each = r.1.each }, refl))
+reply_exists n smooth commands line.Stats = let c = counts_exist n smooth commands in (stats_text c.0, (c.0, c.1, refl))
+reply_exists n smooth commands (line.Age list) = age_exists n smooth commands list
 
 answer_exists : (s : State) (read : Result Line Refusal) → (text : List ℕ) × HasAnswer s read text
-answer_exists s (Ok l) = reply_exists s.vertices s.commands l
+answer_exists s (Ok l) = reply_exists s.vertices s.smooth s.commands l
 answer_exists s (Err refusal) = (error_text (s.lines + 1) refusal.code refusal.place, refl)
 
 pub replies_exist : (s : State) (lines : List (List ℕ)) → (text : List ℕ) × HaveReplies s lines text
 replies_exist s [] = ([], refl)
 replies_exist s (bytes ∷ lines) =
-    let first = answer_exists s (reading_of s bytes) in
+    let first = answer_exists s (line_of (context_of s) bytes) in
     let others = replies_exist (after_line s bytes) lines in
     (first.0 ++ others.0, (first.0, others.0, first.1, others.1, refl))
 

@@ -3,7 +3,7 @@ use Rattle.std.proofs.Common.{◌≡◌, ℕ, ◌+◌, ◌<◌, ◌≤◌, List,
 use Rattle.std.specs.Prelude.{Option, Result, Ok, Err, OnOk, IsErrAnd, if◌then◌else◌}
 use Rattle.std.proofs.lemmas.Bool.{cases_Bool}
 use Rattle.std.proofs.lemmas.List.{take-append-drop, take_all, length-take, length-append}
-use Rattle.apsp_model.specs.Graph.{Graph}
+use Rattle.history_engine.specs.Seen.{Seen}
 use Rattle.script_reader.specs.Input.{line_if_some}
 use Rattle.apsp_service.specs.declared.session.Session.{Session}
 use Rattle.apsp_service.specs.declared.stop.Stop.{Stop}
@@ -151,6 +151,6 @@ some_line (b ∷ content) some = refl
 pub last_gives : (r : Result (Unit {0}) Stop) (old new : Option (List ℕ)) (before now : ℕ) (s : State) (content : List ℕ) → (content ≡ [] → ⊥) → GivingEnds r old new before now s (content ∷ []) → GivingEnds r old new before now s (line_if_some content)
 last_gives r old new before now s content some h = let F : List (List ℕ) → Type 0 = λ ls. GivingEnds r old new before now s ls in subst F (sym (some_line content some)) h
 
-pub last_refused : (r : Result (Unit {0}) Stop) (network : Option Graph) (lines : ℕ) (refused : Bool) (s : State) (content : List ℕ) → (content ≡ [] → ⊥) → OnOk r (StandFor network lines refused (after_line s content)) → OnOk r (refused ≡ (after_lines s (line_if_some content)).refused)
-last_refused (Err e) network lines refused s content some h = tt
-last_refused (Ok u) network lines refused s content some h = h.refused ∙ ap (λ ls. (after_lines s ls).refused) (sym (some_line content some))
+pub last_refused : (r : Result (Unit {0}) Stop) (network : Option Seen) (smooth : Bool) (lines : ℕ) (refused : Bool) (s : State) (content : List ℕ) → (content ≡ [] → ⊥) → OnOk r (StandFor network smooth lines refused (after_line s content)) → OnOk r (refused ≡ (after_lines s (line_if_some content)).refused)
+last_refused (Err e) network smooth lines refused s content some h = tt
+last_refused (Ok u) network smooth lines refused s content some h = h.refused ∙ ap (λ ls. (after_lines s ls).refused) (sym (some_line content some))

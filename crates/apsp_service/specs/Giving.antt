@@ -1,11 +1,10 @@
 -- What a session gives to a sink, and how it stops.
-use Rattle.std.specs.Prelude.{◌≡◌, ℕ, List, [], ◌++◌, Bool, Option, Some, None, Result, Ok, Err}
+use Rattle.std.specs.Prelude.{◌≡◌, ℕ, ◌<◌, ◌≤◌, ◌^◌, ⊤, List, [], ◌++◌, length, Bool, false, Option, Some, None, Result, Ok, Err}
 use Rattle.std.specs.Io.KnownBytes.{Appends}
 use Rattle.apsp_io.specs.Streams.{Rose, GrowsByPrefix}
-use Rattle.apsp_model.specs.Graph.{Graph}
-use Rattle.apsp_model.specs.Command.{Command, graph_of}
-use Rattle.script_reader.specs.declared.Line.{Line}
-use Rattle.apsp_service.specs.Session.{State, HasReply, HaveReplies}
+use Rattle.history_engine.specs.Seen.{Seen}
+use Rattle.history_engine.specs.Advance.{Stands}
+use Rattle.apsp_service.specs.Session.{State, HaveReplies}
 use Rattle.apsp_service.specs.declared.stop.Stop.{Stop}
 use Rattle.apsp_service.specs.declared.stop.Stop.TheVariants as stop
 
@@ -41,21 +40,34 @@ TextGiven (Err stop.Sink) old new before now text = GrowsByPrefix old new text �
 TextGiven (Err stop.Memory) old new before now text = Appends old new []
 TextGiven (Err stop.Limit) old new before now text = ⊥
 
--- the graph that the code has is that of the commands; before the line `vertices` there is none
-abbrev pub HasNetwork : Option Graph → State → Type 0
-HasNetwork None s = (s.vertices ≡ 0) × (s.commands ≡ [])
-HasNetwork (Some g) s = (s.vertices ≡ g.vertices) × (g ≡ graph_of s.vertices s.commands)
+-- the engine behind the session stands for the commands, of which there are no more than lines; before the
+-- line `vertices` there is none
+pub record IsNetworkOf (e : Seen) (s : State) : Type 0 where
+  pub vertices : s.vertices ≡ e.opening
+  pub smooth : e.smooth ≡ s.smooth
+  pub stands : Stands e s.commands
+  pub few : length e.vertices ≤ s.lines
 
-abbrev pub vertices_in : Option Graph → ℕ
+abbrev pub HasNetwork : Option Seen → State → Type 0
+HasNetwork None s = (s.vertices ≡ 0) × (s.commands ≡ [])
+HasNetwork (Some e) s = IsNetworkOf e s
+
+abbrev pub vertices_in : Option Seen → ℕ
 vertices_in None = 0
-vertices_in (Some g) = g.vertices
+vertices_in (Some e) = e.opening
+
+-- memory never ran out, and one more update may be made
+abbrev pub IsReady : Option Seen → Type 0
+IsReady None = ⊤
+IsReady (Some e) = (e.spent ≡ false) × (length e.vertices < 2 ^ 40)
 
 -- the fields of a session say what the state says
-pub record StandFor (g : Option Graph) (count : ℕ) (some_refused : Bool) (s : State) : Type 0 where
-  pub network : HasNetwork g s
+pub record StandFor (seen : Option Seen) (cleans : Bool) (count : ℕ) (some_refused : Bool) (s : State) : Type 0 where
+  pub network : HasNetwork seen s
+  pub smooth : cleans ≡ s.smooth
   pub lines : count ≡ s.lines
   pub refused : some_refused ≡ s.refused
 
--- a text grows by the reply
-abbrev pub AppendsReply : ℕ → List Command → Line → List ℕ → List ℕ → Type 0
-AppendsReply n commands l old new = (reply : List ℕ) × HasReply n commands l reply × (new ≡ old ++ reply)
+-- a text grows by a reply of this kind
+abbrev pub GrowsBy : (List ℕ → Type 0) → List ℕ → List ℕ → Type 0
+GrowsBy IsReply old new = (reply : List ℕ) × IsReply reply × (new ≡ old ++ reply)

@@ -1,5 +1,7 @@
 pub mod Distance
-pub mod Rounds
+pub mod Path
+pub mod Stats
+pub mod Age
 pub mod Replies
 pub mod Begun
 pub mod Words

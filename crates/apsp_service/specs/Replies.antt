@@ -2,17 +2,45 @@
 use Rattle.std.specs.Prelude.{ℕ, List, ◌++◌, Option, Some, None, codes}
 use Rattle.std.specs.List.{flat_map}
 use Rattle.std.specs.Fmt.{decimal}
+use Rattle.apsp_model.specs.Graph.{Graph}
+use Rattle.apsp_model.specs.Walk.{weight_of}
+use Rattle.apsp_model.specs.Counts.{Counts}
+
+-- a number behind a space
+abbrev pub number_text : ℕ → List ℕ
+number_text k = codes " " ++ decimal k
 
 -- a distance behind a space
 abbrev pub entry_text : Option ℕ → List ℕ
 entry_text None = codes " none"
-entry_text (Some d) = codes " " ++ decimal d
+entry_text (Some d) = number_text d
 
 abbrev pub dist_text : ℕ → ℕ → Option ℕ → List ℕ
 dist_text x y d = codes "dist " ++ decimal x ++ codes " " ++ decimal y ++ entry_text d ++ codes "\n"
 
 abbrev pub row_text : ℕ → List (Option ℕ) → List ℕ
 row_text x row = codes "row " ++ decimal x ++ flat_map entry_text row ++ codes "\n"
+
+-- a walk behind its weight in the graph, or `none`
+abbrev pub walk_text : Graph → Option (List ℕ) → List ℕ
+walk_text g None = codes " none"
+walk_text g (Some p) = number_text (weight_of g p) ++ codes " walk" ++ flat_map number_text p
+
+abbrev pub path_text : Graph → ℕ → ℕ → Option (List ℕ) → List ℕ
+path_text g x y walk = codes "path " ++ decimal x ++ codes " " ++ decimal y ++ walk_text g walk ++ codes "\n"
+
+abbrev pub stats_text : Counts → List ℕ
+stats_text c =
+    codes "stats updates " ++ decimal c.updates ++ codes " steps " ++ decimal c.steps ++ codes " paths " ++ decimal c.paths
+    ++ codes " historical " ++ decimal c.historical ++ codes " formed " ++ decimal c.formed ++ codes " removed " ++ decimal c.removed ++ codes "\n"
+
+-- a birth behind its word
+abbrev pub birth_text : Option ℕ → List ℕ
+birth_text None = codes " none"
+birth_text (Some b) = codes " birth " ++ decimal b
+
+abbrev pub age_text : List ℕ → Option ℕ → List ℕ
+age_text list birth = codes "age" ++ flat_map number_text list ++ birth_text birth ++ codes "\n"
 
 -- the refusal of the line with this number
 abbrev pub error_text : ℕ → ℕ → ℕ → List ℕ

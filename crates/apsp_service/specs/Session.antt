@@ -6,26 +6,29 @@ use Rattle.apsp_model.specs.Star.{Star, star_at}
 use Rattle.graph_store.specs.Edges.{with_maybe_edge}
 use Rattle.script_reader.specs.Input.{lines_of, whole_lines}
 use Rattle.script_reader.specs.Meaning.{line_of}
-use Rattle.script_reader.specs.Refused.{Refusal, refused, ◌>>=◌}
-use Rattle.script_reader.specs.declared.code.TheConstants.{COMMAND}
+use Rattle.script_reader.specs.Refused.{Refusal}
 use Rattle.script_reader.specs.declared.Context.{Context}
 use Rattle.script_reader.specs.declared.Line.{Line}
 use Rattle.script_reader.specs.declared.Line.TheVariants as line
 use Rattle.apsp_service.specs.declared.words.Mode.{Mode}
 use Rattle.apsp_service.specs.declared.words.Mode.TheVariants as mode
 use Rattle.apsp_service.specs.Distance.{IsDistReply, IsRowReply}
+use Rattle.apsp_service.specs.Path.{IsPathReply}
+use Rattle.apsp_service.specs.Stats.{IsStatsReply}
+use Rattle.apsp_service.specs.Age.{IsAgeReply}
 use Rattle.apsp_service.specs.Replies.{error_text}
 
--- after some lines: the number of vertices, 0 before the line `vertices`; the commands so far, the
--- latest first; how many lines there were; and whether one of them was refused
+-- after some lines: the number of vertices, 0 before the line `vertices`; whether smoothing is on; the
+-- commands so far, the latest first; how many lines there were; and whether one of them was refused
 pub record State : Type 0 where
   pub vertices : ℕ
+  pub smooth : Bool
   pub commands : List Command
   pub lines : ℕ
   pub refused : Bool
 
-abbrev pub opening : State
-opening = record { vertices = 0; commands = []; lines = 0; refused = false }
+abbrev pub opening : Bool → State
+opening smooth = record { vertices = 0; smooth = smooth; commands = []; lines = 0; refused = false }
 
 abbrev pub context_of : State → Context
 context_of s = record { vertices = s.vertices; live = false; inside = false; updates = 0; asks = 0 }
@@ -58,31 +61,24 @@ abbrev pub after_read : State → Result Line Refusal → State
 after_read s (Ok l) = accepted (counted s) l
 after_read s (Err refusal) = record (counted s) { refused = true }
 
--- questions that are not answered yet count as no commands
-abbrev pub served : Line → Result Line Refusal
-served (line.Path x y) = refused COMMAND 1
-served line.Stats = refused COMMAND 1
-served (line.Age list) = refused COMMAND 1
-served l = Ok l
-
-abbrev pub reading_of : State → List ℕ → Result Line Refusal
-reading_of s bytes = line_of (context_of s) bytes >>= served
-
 abbrev pub after_line : State → List ℕ → State
-after_line s bytes = after_read s (reading_of s bytes)
+after_line s bytes = after_read s (line_of (context_of s) bytes)
 
--- the reply to an accepted line, after these commands on so many vertices
-abbrev pub HasReply : ℕ → List Command → Line → List ℕ → Type 0
-HasReply n commands (line.Dist x y) text = IsDistReply (graph_of n commands) x y text
-HasReply n commands (line.Row x) text = IsRowReply (graph_of n commands) x text
-HasReply n commands _ text = text ≡ []
+-- the reply to an accepted line, after these commands on n vertices, with or without smoothing
+abbrev pub HasReply : ℕ → Bool → List Command → Line → List ℕ → Type 0
+HasReply n smooth commands (line.Dist x y) text = IsDistReply (graph_of n commands) x y text
+HasReply n smooth commands (line.Path x y) text = IsPathReply (graph_of n commands) x y text
+HasReply n smooth commands (line.Row x) text = IsRowReply (graph_of n commands) x text
+HasReply n smooth commands line.Stats text = IsStatsReply n smooth commands text
+HasReply n smooth commands (line.Age list) text = IsAgeReply n smooth commands list text
+HasReply n smooth commands _ text = text ≡ []
 
 abbrev pub HasAnswer : State → Result Line Refusal → List ℕ → Type 0
-HasAnswer s (Ok l) text = HasReply s.vertices s.commands l text
+HasAnswer s (Ok l) text = HasReply s.vertices s.smooth s.commands l text
 HasAnswer s (Err refusal) text = text ≡ error_text (s.lines + 1) refusal.code refusal.place
 
 abbrev pub LineHasReply : State → List ℕ → List ℕ → Type 0
-LineHasReply s bytes text = HasAnswer s (reading_of s bytes) text
+LineHasReply s bytes text = HasAnswer s (line_of (context_of s) bytes) text
 
 -- the replies to the lines, one after another
 abbrev pub HaveReplies : State → List (List ℕ) → List ℕ → Type 0
@@ -99,8 +95,8 @@ status_of s = if s.refused then 1 else 0
 
 -- an input of these bytes has this text and this status
 abbrev pub Session : Mode → List ℕ → List ℕ → ℕ → Type 0
-Session (mode.Run workers smooth) bytes text status = HaveReplies opening (lines_of bytes) text × (status ≡ status_of (after_lines opening (lines_of bytes)))
+Session (mode.Run workers smooth) bytes text status = HaveReplies (opening smooth) (lines_of bytes) text × (status ≡ status_of (after_lines (opening smooth) (lines_of bytes)))
 
 -- the replies to whole lines alone
 abbrev pub HasWholeReplies : Mode → List ℕ → List ℕ → Type 0
-HasWholeReplies (mode.Run workers smooth) bytes text = HaveReplies opening (whole_lines bytes) text
+HasWholeReplies (mode.Run workers smooth) bytes text = HaveReplies (opening smooth) (whole_lines bytes) text

@@ -9,9 +9,13 @@ use Rattle.apsp_service.specs.Giving.{StandFor, Gave, StopsAmong}
 
 -- the session is after the lines of the state, and this content is begun
 pub record IsAt (session : Session) (s : State) (content : List ℕ) : Type 0 where
-  pub stands : StandFor session.network session.lines session.refused s
+  pub stands : StandFor session.network session.smooth session.lines session.refused s
   pub begun : StandsFor session.cutter content
   pub opened : session.cutter.whole ≡ false
+
+-- it is after some lines, and some content is begun
+abbrev pub IsSomewhere : Session → Type 0
+IsSomewhere session = (s : State) × (content : List ℕ) × IsAt session s content
 
 -- it took these bytes
 abbrev pub IsAfter : Session → State → List ℕ → List ℕ → Type 0

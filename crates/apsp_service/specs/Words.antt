@@ -1,5 +1,5 @@
 -- The words of the command line.
-use Rattle.std.specs.Prelude.{ℕ, false, List, [], ◌∷◌, Option, Some, None, codes, if◌then◌else◌}
+use Rattle.std.specs.Prelude.{ℕ, true, false, List, [], ◌∷◌, Option, Some, None, codes, if◌then◌else◌}
 use Rattle.std.specs.Str.{bytes_eq}
 use Rattle.apsp_service.specs.declared.words.Mode.{Mode}
 use Rattle.apsp_service.specs.declared.words.Mode.TheVariants as mode
@@ -7,7 +7,8 @@ use Rattle.apsp_service.specs.declared.words.Mode.TheVariants as mode
 -- what the options behind the mode `run` say
 abbrev pub run_of : List (List ℕ) → Option Mode
 run_of [] = Some (mode.Run 4 false)
-run_of (option ∷ options) = None
+run_of (option ∷ []) = if bytes_eq option (codes "--smooth") then Some (mode.Run 4 true) else None
+run_of (option ∷ other ∷ options) = None
 
 -- the mode that the words give, if they are in the grammar; no words mean `run`
 abbrev pub mode_of : List (List ℕ) → Option Mode

@@ -4,6 +4,7 @@ ghost use Rattle.apsp_io.specs.Streams.{Rose};
 ghost use Rattle.apsp_service.specs.Session.{Session};
 ghost use Rattle.apsp_service.specs.Outcome.{status_after, ReadToEnd, IsStatus, IsAnswered, IsStoppedEarly, IsCutShort, IsComplete, TookMoreThan, TookAtMost, SaysTooMuch, SaysRefused};
 
+use crate::crew::Crew;
 use crate::run::{MOST_INPUT, run};
 use crate::stop::Stop;
 use crate::words::{Mode, read_words};
@@ -20,12 +21,12 @@ use std::thread::Threads;
 /// was. It is 3 or 4 where the source or the sink failed, 5 where memory ran out, and 6 where the
 /// input has more than `MOST_INPUT` bytes.
 pub fn script<S: Source, K: Sink, G: Gate, R: Threads + Sync>(
-    _rt: &R,
+    rt: &R,
     alloc: Global,
     mode: &Mode,
     source: &mut S,
     sink: &mut K,
-    _gate: &G,
+    gate: &G,
 ) -> u8
     // Of a status: the session of the whole input gives it, or what failed has counted a fault.
     ensures answered { ReadToEnd result → IsAnswered mode.now (S.left source.old) (S.left source.new) (K.held sink.old) (K.held sink.new) result }
@@ -51,7 +52,10 @@ pub fn script<S: Source, K: Sink, G: Gate, R: Threads + Sync>(
     ensures sink_later { K.faults sink.old ≤ K.faults sink.new }
 {
     match mode {
-        Mode::Run { .. } => status(run(alloc, source, sink)),
+        Mode::Run { workers, smooth } => {
+            let crew = Crew::new(rt, *workers, gate);
+            status(run(alloc, &crew, *smooth, source, sink))
+        }
     }
 }
 

@@ -2,7 +2,7 @@
 //! program does.
 #![tactic(auto)]
 
-mod distances;
+mod crew;
 mod entry;
 mod network;
 mod replies;

@@ -1,123 +1,196 @@
-//! The graph of a session, and what a question or an update does with it.
+//! The engine behind a session, and what a question or an update does with it.
 
-ghost use Rattle.std.specs.Prelude.{◌≡◌, ◌≢◌, ◌<◌, ◌≤◌, IfOk, OnOk, string_bytes, vec_len};
+ghost use Rattle.std.specs.Prelude.{◌≡◌, ◌≢◌, ◌<◌, ◌≤◌, ◌++◌, ◌^◌, All, IfOk, List, [], OnOk, Option, false, length, string_bytes, ℕ};
 ghost use Rattle.std.specs.Option.{ForSome};
+ghost use Rattle.std.specs.List.{flat_map};
 ghost use Rattle.apsp_model.specs.declared.TheConstants.{MOST_VERTICES};
-ghost use Rattle.apsp_model.specs.Graph.{no_edges};
-ghost use Rattle.apsp_model.specs.Star.{star_of};
+ghost use Rattle.apsp_model.specs.Command.{Command, Update};
+ghost use Rattle.apsp_model.specs.Least.{LeastIs};
 ghost use Rattle.graph_store.specs.Making.{IsVertexCount};
 ghost use Rattle.graph_store.specs.Edges.{IsWeight};
+ghost use Rattle.history_engine.specs.Advance.{Advance, Stands};
+ghost use Rattle.apsp_service.specs.Age.{IsAgeReply};
+ghost use Rattle.apsp_service.specs.Distance.{IsDistance, AreDistances, IsDistReply, IsRowReply};
+ghost use Rattle.apsp_service.specs.Giving.{GrowsBy};
+ghost use Rattle.apsp_service.specs.Path.{IsPathReply};
+ghost use Rattle.apsp_service.specs.Replies.{entry_text, walk_text};
 ghost use Rattle.apsp_service.specs.Session.{star_with};
-ghost use Rattle.apsp_service.specs.Distance.{IsDistance, AppendsDist, AppendsRow};
+ghost use Rattle.apsp_service.specs.Stats.{IsStatsReply};
 
-use crate::distances::distances_from;
-use crate::replies::{put_dist, put_row};
-use graph_store::{Graph, Star};
+use crate::crew::Crew;
+use crate::replies::{put_age, put_dist, put_entry, put_stats, put_walk};
+use apsp_io::Gate;
+use graph_store::Star;
+use history_engine::Engine;
 use std::alloc::{AllocError, Global};
-use std::marker::Model;
+use std::fmt::Write;
+use std::marker::{Model, Sync};
+use std::thread::Threads;
 
-/// The present graph, with room for one star and for the rows of a question, so that neither an
-/// update nor a question takes memory.
+/// The engine, with room for the star that `edge` and `cut` make, so that they take no memory for
+/// it. After want of memory in an update it is used no more.
 #[derive(Drop)]
 pub struct Network {
-    graph: Graph,
+    engine: Engine,
     star: Star,
-    row: Vec<Option<u64>>,
-    spare: Vec<Option<u64>>,
 }
 
 impl Model for Network {
-    ghost use Rattle.apsp_model.specs.Graph.{Graph as Graph_model, graph_code};
+    ghost use Rattle.history_engine.specs.Seen.{Seen, seen_code};
     ghost use Rattle.apsp_service.specs.NetworkInside.{HasRoom};
 
-    ghost Value = { Graph_model };
+    ghost Value = { Seen };
 
-    ghost coded = { graph_code };
+    ghost coded = { seen_code };
 
-    ghost view = { λ n. n.graph };
+    ghost view = { λ n. n.engine };
 
     ghost invariant = { HasRoom };
 }
 
 impl Network {
-    /// So many vertices and no edges.
-    pub fn new(alloc: Global, vertices: u32) -> Result<Network, AllocError>
+    /// So many vertices and no edges, with smoothing or without it.
+    pub fn new(alloc: Global, vertices: u32, smooth: bool) -> Result<Network, AllocError>
         requires { IsVertexCount vertices }
-        ensures { IfOk result (λ n. n ≡ no_edges vertices) }
+        ensures opening { IfOk result (λ n. n.opening ≡ vertices) }
+        ensures smooth { IfOk result (λ n. n.smooth ≡ smooth) }
+        ensures stands { IfOk result (λ n. Stands n []) }
     {
         Ok(Network {
-            graph: Graph::new(alloc, vertices).map_err(|_| AllocError)?,
+            engine: Engine::new(alloc, vertices, smooth).map_err(|_| AllocError)?,
             star: Star::new(alloc, vertices, 0).map_err(|_| AllocError)?,
-            row: no_distances(alloc, vertices)?,
-            spare: no_distances(alloc, vertices)?,
         })
     }
 
     /// The number of vertices.
     pub fn vertices(&self) -> u32
-        ensures vertices { result ≡ self.now.vertices }
+        ensures vertices { result ≡ self.now.opening }
         ensures most { result ≤ MOST_VERTICES }
     {
-        self.graph.vertices()
+        self.engine.vertices()
     }
 
     /// Replaces the star of a vertex.
-    pub fn apply(&mut self, star: &Star)
-        requires { star.now.vertices ≡ self.old.vertices }
-        ensures { self.new ≡ star_of self.old star.now }
+    pub fn apply<R: Threads + Sync, G: Gate>(
+        &mut self,
+        crew: &Crew<'_, R, G>,
+        star: &Star,
+    ) -> Result<(), AllocError>
+        requires same { star.now.vertices ≡ self.old.opening }
+        requires few { length self.old.vertices < 2 ^ 40 }
+        ensures { OnOk result (Advance self.old (Update star.now) self.new) }
     {
-        self.graph.apply(star);
+        crew.update(&mut self.engine, star)
     }
 
     /// Gives u the star that it has, with the edge to v of this weight or without it.
-    pub fn put_edge(&mut self, u: u32, v: u32, weight: Option<u32>)
-        requires from { u < self.old.vertices }
-        requires to { v < self.old.vertices }
+    pub fn put_edge<R: Threads + Sync, G: Gate>(
+        &mut self,
+        crew: &Crew<'_, R, G>,
+        u: u32,
+        v: u32,
+        weight: Option<u32>,
+    ) -> Result<(), AllocError>
+        requires from { u < self.old.opening }
+        requires to { v < self.old.opening }
         requires apart { u ≢ v }
         requires weight { ForSome weight IsWeight }
-        ensures { self.new ≡ star_of self.old (star_with self.old u v weight) }
+        requires few { length self.old.vertices < 2 ^ 40 }
+        ensures { OnOk result (Advance self.old (Update (star_with self.old.graph u v weight)) self.new) }
     {
-        self.graph.star_into(u, &mut self.star);
+        self.engine.graph().star_into(u, &mut self.star);
         self.star.put_out(v, weight);
-        self.graph.apply(&self.star);
+        crew.update(&mut self.engine, &self.star)
     }
 
     /// Puts the reply to `dist` behind the text.
-    pub fn put_dist(&mut self, text: &mut String, x: u32, y: u32) -> Result<(), AllocError>
-        requires from { x < self.old.vertices }
-        requires to { y < self.old.vertices }
-        ensures reply { OnOk result (AppendsDist self.old x y (string_bytes text.old) (string_bytes text.new)) }
-        ensures same { self.new ≡ self.old }
+    pub fn put_dist(&self, text: &mut String, x: u32, y: u32) -> Result<(), AllocError>
+        requires not_spent { self.now.spent ≡ false }
+        requires from { x < self.now.opening }
+        requires to { y < self.now.opening }
+        ensures { OnOk result (GrowsBy (IsDistReply self.now.graph x y) (string_bytes text.old) (string_bytes text.new)) }
     {
         let distance = self.distance(x, y);
         put_dist(text, x, y, distance)
     }
 
-    /// What the least walk from x to y weighs.
-    fn distance(&mut self, x: u32, y: u32) -> Option<u64>
-        requires from { x < self.old.vertices }
-        requires to { y < self.old.vertices }
-        ensures distance { IsDistance self.old x y result }
-        ensures same { self.new ≡ self.old }
-    {
-        distances_from(&self.graph, x, &mut self.row, &mut self.spare);
-        self.row[y as usize]
-    }
-
     /// Puts the reply to `row` behind the text.
-    pub fn put_row(&mut self, text: &mut String, x: u32) -> Result<(), AllocError>
-        requires { x < self.old.vertices }
-        ensures reply { OnOk result (AppendsRow self.old x (string_bytes text.old) (string_bytes text.new)) }
-        ensures same { self.new ≡ self.old }
+    pub fn put_row(&self, text: &mut String, x: u32) -> Result<(), AllocError>
+        requires not_spent { self.now.spent ≡ false }
+        requires inside { x < self.now.opening }
+        ensures { OnOk result (GrowsBy (IsRowReply self.now.graph x) (string_bytes text.old) (string_bytes text.new)) }
     {
-        distances_from(&self.graph, x, &mut self.row, &mut self.spare);
-        put_row(text, x, &self.row)
+        write!(text, "row {x}")?;
+        self.put_distances(text, x)?;
+        text.push('\n')
     }
-}
 
-/// Room for a row.
-fn no_distances(alloc: Global, count: u32) -> Result<Vec<Option<u64>>, AllocError>
-    ensures { IfOk result (λ row. vec_len row ≡ count) }
-{
-    vec![in alloc; None; count as usize]
+    /// Puts the distance from x to each vertex behind the text.
+    fn put_distances(&self, text: &mut String, x: u32) -> Result<(), AllocError>
+        requires not_spent { self.now.spent ≡ false }
+        requires inside { x < self.now.opening }
+        ensures { OnOk result ((row : List (Option ℕ)) × AreDistances self.now.graph x row × (string_bytes text.new ≡ string_bytes text.old ++ flat_map entry_text row)) }
+    {
+        for y in 0..self.engine.graph().vertices() {
+            let distance = self.distance(x, y);
+            put_entry(text, distance)?;
+        }
+        Ok(())
+    }
+
+    /// What the least walk from x to y weighs.
+    fn distance(&self, x: u32, y: u32) -> Option<u64>
+        requires not_spent { self.now.spent ≡ false }
+        requires from { x < self.now.opening }
+        requires to { y < self.now.opening }
+        ensures { IsDistance self.now.graph x y result }
+    {
+        match self.engine.least(x, y) {
+            Some(least) => Some(least.weight()),
+            None => None,
+        }
+    }
+
+    /// Puts the reply to `path` behind the text.
+    pub fn put_path(&self, text: &mut String, x: u32, y: u32) -> Result<(), AllocError>
+        requires not_spent { self.now.spent ≡ false }
+        requires from { x < self.now.opening }
+        requires to { y < self.now.opening }
+        ensures { OnOk result (GrowsBy (IsPathReply self.now.graph x y) (string_bytes text.old) (string_bytes text.new)) }
+    {
+        write!(text, "path {x} {y}")?;
+        self.put_least(text, x, y)?;
+        text.push('\n')
+    }
+
+    /// Puts the least walk from x to y behind the text, or `none`.
+    fn put_least(&self, text: &mut String, x: u32, y: u32) -> Result<(), AllocError>
+        requires not_spent { self.now.spent ≡ false }
+        requires from { x < self.now.opening }
+        requires to { y < self.now.opening }
+        ensures { OnOk result ((walk : Option (List ℕ)) × LeastIs self.now.graph x y walk × (string_bytes text.new ≡ string_bytes text.old ++ walk_text self.now.graph walk)) }
+    {
+        match self.engine.least(x, y) {
+            Some(least) => put_walk(text, &least),
+            None => text.push_str(" none"),
+        }
+    }
+
+    /// Puts the reply to `stats` behind the text.
+    pub fn put_stats(&self, text: &mut String) -> Result<(), AllocError>
+        requires { self.now.spent ≡ false }
+        ensures { (commands : List Command) → Stands self.now commands → OnOk result (GrowsBy (IsStatsReply self.now.opening self.now.smooth commands) (string_bytes text.old) (string_bytes text.new)) }
+    {
+        put_stats(text, self.engine.counts())
+    }
+
+    /// Puts the reply to `age` behind the text.
+    pub fn put_age(&self, text: &mut String, list: &[u32]) -> Result<(), AllocError>
+        requires not_spent { self.now.spent ≡ false }
+        requires some { 0 < length list.now }
+        requires inside { All (λ v. v < self.now.opening) list.now }
+        ensures { (commands : List Command) → Stands self.now commands → OnOk result (GrowsBy (IsAgeReply self.now.opening self.now.smooth commands list.now) (string_bytes text.old) (string_bytes text.new)) }
+    {
+        put_age(text, list, self.engine.birth(list))
+    }
 }

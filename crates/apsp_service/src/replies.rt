@@ -1,9 +1,12 @@
 //! Reply lines as text. Each function puts one line, or a part of one, behind the text.
 
-ghost use Rattle.std.specs.Prelude.{◌≡◌, ◌++◌, OnOk, string_bytes};
-ghost use Rattle.apsp_service.specs.Replies.{entry_text, dist_text, row_text, error_text};
+ghost use Rattle.std.specs.Prelude.{◌≡◌, ◌++◌, OnOk, codes, string_bytes};
 ghost use Rattle.std.specs.List.{flat_map};
+ghost use Rattle.path_arena.specs.Arena.{list_of, weight_of};
+ghost use Rattle.history_engine.specs.Answers.{numbers};
+ghost use Rattle.apsp_service.specs.Replies.{number_text, entry_text, dist_text, stats_text, birth_text, age_text, error_text};
 
+use history_engine::{Counts, Least};
 use std::alloc::AllocError;
 use std::fmt::Write;
 
@@ -16,12 +19,40 @@ pub fn put_dist(text: &mut String, x: u32, y: u32, distance: Option<u64>) -> Res
     text.push('\n')
 }
 
-/// The reply to `row`.
-pub fn put_row(text: &mut String, x: u32, row: &[Option<u64>]) -> Result<(), AllocError>
-    ensures { OnOk result (string_bytes text.new ≡ string_bytes text.old ++ row_text x row.now) }
+/// A least walk behind its weight.
+pub fn put_walk(text: &mut String, least: &Least<'_>) -> Result<(), AllocError>
+    ensures { OnOk result (string_bytes text.new ≡ string_bytes text.old ++ number_text (weight_of least.now.book.arena least.now.id) ++ codes " walk" ++ flat_map number_text (list_of least.now.book.arena least.now.id)) }
 {
-    write!(text, "row {x}")?;
-    put_entries(text, row)?;
+    write!(text, " {} walk", least.weight())?;
+    for vertex in least.vertices() {
+        put_number(text, vertex)?;
+    }
+    Ok(())
+}
+
+/// The reply to `stats`.
+pub fn put_stats(text: &mut String, counts: Counts) -> Result<(), AllocError>
+    ensures { OnOk result (string_bytes text.new ≡ string_bytes text.old ++ stats_text (numbers counts)) }
+{
+    write!(
+        text,
+        "stats updates {} steps {} paths {} historical {} formed {} removed {}\n",
+        counts.updates,
+        counts.steps,
+        counts.paths,
+        counts.historical,
+        counts.formed,
+        counts.removed
+    )
+}
+
+/// The reply to `age`.
+pub fn put_age(text: &mut String, list: &[u32], birth: Option<u64>) -> Result<(), AllocError>
+    ensures { OnOk result (string_bytes text.new ≡ string_bytes text.old ++ age_text list.now birth) }
+{
+    text.push_str("age")?;
+    put_list(text, list)?;
+    put_birth(text, birth)?;
     text.push('\n')
 }
 
@@ -32,21 +63,39 @@ pub fn put_error(text: &mut String, line: u32, code: u32, place: u32) -> Result<
     write!(text, "line {line} error {code} at {place}\n")
 }
 
-fn put_entries(text: &mut String, row: &[Option<u64>]) -> Result<(), AllocError>
-    ensures { OnOk result (string_bytes text.new ≡ string_bytes text.old ++ flat_map entry_text row.now) }
-{
-    for distance in row {
-        put_entry(text, *distance)?;
-    }
-    Ok(())
-}
-
 /// A distance behind a space, or `none`.
-fn put_entry(text: &mut String, distance: Option<u64>) -> Result<(), AllocError>
+pub fn put_entry(text: &mut String, distance: Option<u64>) -> Result<(), AllocError>
     ensures { OnOk result (string_bytes text.new ≡ string_bytes text.old ++ entry_text distance) }
 {
     match distance {
         Some(distance) => write!(text, " {distance}"),
         None => text.push_str(" none"),
     }
+}
+
+/// A birth behind its word, or `none`.
+fn put_birth(text: &mut String, birth: Option<u64>) -> Result<(), AllocError>
+    ensures { OnOk result (string_bytes text.new ≡ string_bytes text.old ++ birth_text birth) }
+{
+    match birth {
+        Some(birth) => write!(text, " birth {birth}"),
+        None => text.push_str(" none"),
+    }
+}
+
+/// Vertices, each behind a space.
+fn put_list(text: &mut String, list: &[u32]) -> Result<(), AllocError>
+    ensures { OnOk result (string_bytes text.new ≡ string_bytes text.old ++ flat_map number_text list.now) }
+{
+    for vertex in list {
+        put_number(text, *vertex)?;
+    }
+    Ok(())
+}
+
+/// A vertex behind a space.
+fn put_number(text: &mut String, vertex: u32) -> Result<(), AllocError>
+    ensures { OnOk result (string_bytes text.new ≡ string_bytes text.old ++ number_text vertex) }
+{
+    write!(text, " {vertex}")
 }

@@ -1,14 +1,17 @@
 //! A run over an input: from the source, piece by piece, to the sink, reply by reply.
 
-ghost use Rattle.std.specs.Prelude.{◌≡◌, ◌<◌, ◌≤◌, ◌+◌, ◌^◌, List, [], ℕ, length, take, Option, OnOk, IfOk, false};
+ghost use Rattle.std.specs.Prelude.{◌≡◌, ◌<◌, ◌≤◌, ◌+◌, ◌^◌, Bool, List, [], ℕ, length, take, Option, OnOk, IfOk, false};
 ghost use Rattle.apsp_service.specs.Session.{State, opening};
-ghost use Rattle.apsp_service.specs.Standing.{IsAt, TakesPiece};
+ghost use Rattle.apsp_service.specs.Standing.{IsAt, IsSomewhere, TakesPiece};
 ghost use Rattle.apsp_service.specs.Running.{SoFar, PieceEnds, AllEnds, RunEnds, TakeEnds};
 
+use crate::crew::Crew;
 use crate::session::Session;
 use crate::stop::Stop;
-use apsp_io::{Failed, Sink, Source};
+use apsp_io::{Failed, Gate, Sink, Source};
 use std::alloc::Global;
+use std::marker::Sync;
+use std::thread::Threads;
 
 /// The most bytes of an input.
 pub const MOST_INPUT: usize = 16_777_216;
@@ -17,25 +20,32 @@ pub const MOST_INPUT: usize = 16_777_216;
 const PIECE: usize = 4096;
 
 /// Answers the lines of the source, each as it becomes whole, and says whether one was refused.
-pub fn run<S: Source, K: Sink>(alloc: Global, source: &mut S, sink: &mut K) -> Result<bool, Stop>
-    ensures ends { RunEnds result (S.left source.old) (S.left source.new) (K.held sink.old) (K.held sink.new) (S.faults source.old) (S.faults source.new) (K.faults sink.old) (K.faults sink.new) }
+pub fn run<S: Source, K: Sink, R: Threads + Sync, G: Gate>(
+    alloc: Global,
+    crew: &Crew<'_, R, G>,
+    smooth: bool,
+    source: &mut S,
+    sink: &mut K,
+) -> Result<bool, Stop>
+    ensures ends { RunEnds smooth result (S.left source.old) (S.left source.new) (K.held sink.old) (K.held sink.new) (S.faults source.old) (S.faults source.new) (K.faults sink.old) (K.faults sink.new) }
     ensures source_later { S.faults source.old ≤ S.faults source.new }
     ensures sink_later { K.faults sink.old ≤ K.faults sink.new }
 {
-    let mut session = Session::new(alloc)?;
-    answer_all(&mut session, source, sink)?;
-    session.answer_last(sink)?;
+    let mut session = Session::new(alloc, smooth)?;
+    answer_all(&mut session, crew, source, sink)?;
+    session.answer_last(crew, sink)?;
     Ok(session.has_refused())
 }
 
 /// Answers the lines that a newline ends.
-fn answer_all<S: Source, K: Sink>(
+fn answer_all<S: Source, K: Sink, R: Threads + Sync, G: Gate>(
     session: &mut Session,
+    crew: &Crew<'_, R, G>,
     source: &mut S,
     sink: &mut K,
 ) -> Result<(), Stop>
-    requires { IsAt session.old opening [] }
-    ensures ends { AllEnds result session.new (S.left source.old) (S.left source.new) (K.held sink.old) (K.held sink.new) (S.faults source.old) (S.faults source.new) (K.faults sink.old) (K.faults sink.new) }
+    requires { IsAt session.old (opening session.old.smooth) [] }
+    ensures ends { AllEnds session.old.smooth result session.new (S.left source.old) (S.left source.new) (K.held sink.old) (K.held sink.new) (S.faults source.old) (S.faults source.new) (K.faults sink.old) (K.faults sink.new) }
     ensures lines { OnOk result (session.new.lines ≤ MOST_INPUT) }
     ensures source_later { S.faults source.old ≤ S.faults source.new }
     ensures sink_later { K.faults sink.old ≤ K.faults sink.new }
@@ -43,7 +53,7 @@ fn answer_all<S: Source, K: Sink>(
     let mut buffer = [0; PIECE];
     let mut taken = 0;
     loop {
-        let count = answer_piece(session, taken, &mut buffer, source, sink)?;
+        let count = answer_piece(session, crew, taken, &mut buffer, source, sink)?;
         if count == 0 {
             return Ok(());
         }
@@ -53,8 +63,9 @@ fn answer_all<S: Source, K: Sink>(
 
 /// Answers the lines that the next piece of the input makes whole, where so many bytes were taken
 /// before. Says how many bytes it has, 0 at the end of the input.
-fn answer_piece<S: Source, K: Sink>(
+fn answer_piece<S: Source, K: Sink, R: Threads + Sync, G: Gate>(
     session: &mut Session,
+    crew: &Crew<'_, R, G>,
     taken: usize,
     buffer: &mut [u8],
     source: &mut S,
@@ -62,9 +73,10 @@ fn answer_piece<S: Source, K: Sink>(
 ) -> Result<usize, Stop>
     requires few { taken ≤ MOST_INPUT }
     requires lines { session.old.lines ≤ taken }
+    requires stands { IsSomewhere session.old }
     requires opened { session.old.cutter.whole ≡ false }
     requires room { length buffer.old ≡ PIECE }
-    ensures ends { (left held : Option (List ℕ)) (bytes : List ℕ) → SoFar session.old left (S.left source.old) held (K.held sink.old) bytes → length bytes ≡ taken → PieceEnds result session.new left (S.left source.new) held (K.held sink.new) (S.faults source.old) (S.faults source.new) (K.faults sink.old) (K.faults sink.new) bytes }
+    ensures ends { (smooth : Bool) (left held : Option (List ℕ)) (bytes : List ℕ) → SoFar smooth session.old left (S.left source.old) held (K.held sink.old) bytes → length bytes ≡ taken → PieceEnds smooth result session.new left (S.left source.new) held (K.held sink.new) (S.faults source.old) (S.faults source.new) (K.faults sink.old) (K.faults sink.new) bytes }
     ensures few { IfOk result (λ count. taken + count ≤ MOST_INPUT) }
     ensures lines { IfOk result (λ count. session.new.lines ≤ taken + count) }
     ensures opened { OnOk result (session.new.cutter.whole ≡ false) }
@@ -75,21 +87,23 @@ fn answer_piece<S: Source, K: Sink>(
     let count = take(source, buffer, room)?;
     if taken + count > MOST_INPUT {
         // The last byte is one too many, and is not looked at.
-        answer_front(session, buffer, count - 1, sink)?;
+        answer_front(session, crew, buffer, count - 1, sink)?;
         return Err(Stop::Limit);
     }
-    answer_front(session, buffer, count, sink)?;
+    answer_front(session, crew, buffer, count, sink)?;
     Ok(count)
 }
 
 /// Answers the lines that the front of the buffer makes whole.
-fn answer_front<K: Sink>(
+fn answer_front<K: Sink, R: Threads + Sync, G: Gate>(
     session: &mut Session,
+    crew: &Crew<'_, R, G>,
     buffer: &[u8],
     count: usize,
     sink: &mut K,
 ) -> Result<(), Stop>
     requires inside { count ≤ length buffer.now }
+    requires stands { IsSomewhere session.old }
     requires opened { session.old.cutter.whole ≡ false }
     requires few { session.old.lines + count < 2 ^ 32 }
     ensures takes { (s : State) (content : List ℕ) → IsAt session.old s content → TakesPiece result session.new (K.held sink.old) (K.held sink.new) (K.faults sink.old) (K.faults sink.new) s content (take count buffer.now) }
@@ -97,7 +111,7 @@ fn answer_front<K: Sink>(
     ensures opened { OnOk result (session.new.cutter.whole ≡ false) }
     ensures later { K.faults sink.old ≤ K.faults sink.new }
 {
-    session.answer_piece(&buffer[..count], sink)
+    session.answer_piece(crew, &buffer[..count], sink)
 }
 
 /// Fills the front of the buffer, with as many bytes as there is room for or fewer.

@@ -2,31 +2,35 @@
 
 ghost use Rattle.std.specs.Prelude.{◌≡◌, Some, ◌<◌, ◌≤◌, ◌+◌, ◌^◌, [], ◌∷◌, ◌++◌, List, ℕ, length, take, IfOk, OnOk, IsTrue, ◌↔◌, false, string_bytes};
 ghost use Rattle.script_reader.specs.Answer.{IsAnswer, Fits};
-ghost use Rattle.apsp_service.specs.Session.{State, opening, context_of, accepted, HasReply, LineHasReply, after_line, after_lines, reading_of, served};
+ghost use Rattle.apsp_service.specs.Session.{State, opening, context_of, accepted, counted, HasReply, LineHasReply, after_line, after_lines};
 ghost use Rattle.script_reader.specs.Meaning.{line_of};
 ghost use Rattle.script_reader.specs.Input.{line_if_some};
-ghost use Rattle.apsp_service.specs.Giving.{StandFor, HasNetwork, AppendsReply, TextGiven, vertices_in, GivingEnds};
-ghost use Rattle.apsp_service.specs.Standing.{IsAt, TakesFront, TakesPiece};
+ghost use Rattle.apsp_service.specs.Giving.{StandFor, HasNetwork, IsNetworkOf, IsReady, GrowsBy, TextGiven, vertices_in, GivingEnds};
+ghost use Rattle.apsp_service.specs.Standing.{IsAt, IsSomewhere, TakesFront, TakesPiece};
 ghost use Rattle.script_reader.specs.Cutter.{StandsFor};
 ghost use Rattle.apsp_model.specs.declared.TheConstants.{MOST_VERTICES};
 ghost use Rattle.apsp_service.specs.Begun.{lines_from, rest_from};
 
+use crate::crew::Crew;
 use crate::network::Network;
 use crate::replies::put_error;
 use crate::stop::Stop;
-use apsp_io::{GiveError, Sink};
+use apsp_io::{Gate, GiveError, Sink};
 use apsp_model::Memory;
-use script_reader::code::{COMMAND, TOO_LONG};
+use script_reader::code::TOO_LONG;
 use script_reader::{Context, Line, LineCutter, LineError, read_line};
 use std::alloc::{AllocError, Global};
+use std::marker::Sync;
+use std::thread::Threads;
 
-/// What a session keeps from line to line: the line that is begun, the graph, how many lines there
-/// were and whether one was refused, and room for the text of a reply.
+/// What a session keeps from line to line: the line that is begun, the network and whether smoothing
+/// is on, how many lines there were and whether one was refused, and room for the text of a reply.
 #[derive(Drop)]
 pub struct Session {
     alloc: Global,
     cutter: LineCutter,
     network: Option<Network>,
+    smooth: bool,
     lines: u32,
     refused: bool,
     text: String,
@@ -34,8 +38,9 @@ pub struct Session {
 
 impl Session {
     /// Before the first line.
-    pub fn new(alloc: Global) -> Result<Session, Memory>
-        ensures stands { IfOk result (λ s. StandFor s.network s.lines s.refused opening) }
+    pub fn new(alloc: Global, smooth: bool) -> Result<Session, Memory>
+        ensures stands { IfOk result (λ s. StandFor s.network s.smooth s.lines s.refused (opening s.smooth)) }
+        ensures smooth { IfOk result (λ s. s.smooth ≡ smooth) }
         ensures content { IfOk result (λ s. StandsFor s.cutter []) }
         ensures open { IfOk result (λ s. s.cutter.whole ≡ false) }
     {
@@ -43,6 +48,7 @@ impl Session {
             alloc,
             cutter: LineCutter::new(alloc)?,
             network: None,
+            smooth,
             lines: 0,
             refused: false,
             text: String::new(alloc),
@@ -51,7 +57,7 @@ impl Session {
 
     /// What the meaning of the next line depends on.
     fn context(&self) -> Context
-        ensures context { (s : State) → StandFor self.now.network self.now.lines self.now.refused s → result ≡ context_of s }
+        ensures context { (s : State) → StandFor self.now.network self.now.smooth self.now.lines self.now.refused s → result ≡ context_of s }
         ensures vertices { result.vertices ≡ vertices_in self.now.network }
         ensures most { result.vertices ≤ MOST_VERTICES }
         ensures no_blocks { (result.live ≡ false) × (result.inside ≡ false) }
@@ -69,9 +75,9 @@ impl Session {
         }
     }
 
-    /// The meaning of the line that is begun.
+    /// What the line that is begun asks for, or why and where it is refused.
     fn read(&self) -> Result<Line, LineError>
-        ensures reading { (s : State) (content : List ℕ) → StandFor self.now.network self.now.lines self.now.refused s → StandsFor self.now.cutter content → IsAnswer (line_of (context_of s) content) result }
+        ensures reading { (s : State) (content : List ℕ) → StandFor self.now.network self.now.smooth self.now.lines self.now.refused s → StandsFor self.now.cutter content → IsAnswer (line_of (context_of s) content) result }
         ensures fits { IfOk result (Fits (vertices_in self.now.network)) }
     {
         if self.cutter.too_long() {
@@ -83,48 +89,45 @@ impl Session {
         read_line(self.alloc, self.cutter.line(), &self.context())
     }
 
-    /// What the line that is begun asks for, or why and where it is refused.
-    fn reading(&self) -> Result<Line, LineError>
-        ensures reading { (s : State) (content : List ℕ) → StandFor self.now.network self.now.lines self.now.refused s → StandsFor self.now.cutter content → IsAnswer (reading_of s content) result }
-        ensures fits { IfOk result (Fits (vertices_in self.now.network)) }
-    {
-        match self.read() {
-            Ok(line) => serve(line),
-            Err(error) => Err(error),
-        }
-    }
-
     /// Does what an accepted line asks for, and puts the reply behind the text.
-    fn obey(&mut self, line: Line) -> Result<(), AllocError>
-        requires { Fits (vertices_in self.old.network) line }
-        ensures stands { (s : State) → StandFor self.old.network self.old.lines self.old.refused s → OnOk result (StandFor self.new.network self.new.lines self.new.refused (accepted s line)) }
-        ensures reply { (s : State) → StandFor self.old.network self.old.lines self.old.refused s → OnOk result (AppendsReply s.vertices s.commands line (string_bytes self.old.text) (string_bytes self.new.text)) }
+    fn obey<R: Threads + Sync, G: Gate>(
+        &mut self,
+        crew: &Crew<'_, R, G>,
+        line: Line,
+    ) -> Result<(), AllocError>
+        requires fits { Fits (vertices_in self.old.network) line }
+        requires ready { IsReady self.old.network }
+        ensures stands { (s : State) → HasNetwork self.old.network s → self.old.smooth ≡ s.smooth → OnOk result (HasNetwork self.new.network (accepted (counted s) line)) }
+        ensures reply { (s : State) → HasNetwork self.old.network s → OnOk result (GrowsBy (HasReply s.vertices s.smooth s.commands line) (string_bytes self.old.text) (string_bytes self.new.text)) }
         ensures cutter { self.new.cutter ≡ self.old.cutter }
+        ensures smooth { self.new.smooth ≡ self.old.smooth }
         ensures lines { self.new.lines ≡ self.old.lines }
+        ensures refused { self.new.refused ≡ self.old.refused }
     {
         if let Line::Vertices(vertices) = line {
-            self.network = Some(Network::new(self.alloc, vertices)?);
+            self.network = Some(Network::new(self.alloc, vertices, self.smooth)?);
             return Ok(());
         }
         match &mut self.network {
-            Some(network) => obey_in(network, &mut self.text, line),
+            Some(network) => obey_in(network, crew, &mut self.text, line),
             None => Ok(()),
         }
     }
 
     /// Answers the line that is begun: the text is its reply then.
-    fn answer(&mut self) -> Result<(), AllocError>
-        requires { self.old.lines + 1 < 2 ^ 32 }
-        ensures stands { (s : State) (content : List ℕ) → StandFor self.old.network self.old.lines self.old.refused s → StandsFor self.old.cutter content → OnOk result (StandFor self.new.network self.new.lines self.new.refused (after_line s content)) }
-        ensures reply { (s : State) (content : List ℕ) → StandFor self.old.network self.old.lines self.old.refused s → StandsFor self.old.cutter content → OnOk result (LineHasReply s content (string_bytes self.new.text)) }
+    fn answer<R: Threads + Sync, G: Gate>(&mut self, crew: &Crew<'_, R, G>) -> Result<(), AllocError>
+        requires few { self.old.lines + 1 < 2 ^ 32 }
+        requires stands { (s : State) × StandFor self.old.network self.old.smooth self.old.lines self.old.refused s }
+        ensures stands { (s : State) (content : List ℕ) → StandFor self.old.network self.old.smooth self.old.lines self.old.refused s → StandsFor self.old.cutter content → OnOk result (StandFor self.new.network self.new.smooth self.new.lines self.new.refused (after_line s content)) }
+        ensures reply { (s : State) (content : List ℕ) → StandFor self.old.network self.old.smooth self.old.lines self.old.refused s → StandsFor self.old.cutter content → OnOk result (LineHasReply s content (string_bytes self.new.text)) }
         ensures cutter { self.new.cutter ≡ self.old.cutter }
         ensures lines { self.new.lines ≡ self.old.lines + 1 }
     {
-        let reading = self.reading();
+        let reading = self.read();
         self.text.clear();
         self.lines += 1;
         match reading {
-            Ok(line) => self.obey(line),
+            Ok(line) => self.obey(crew, line),
             Err(LineError::Refused { code, place }) => {
                 self.refused = true;
                 put_error(&mut self.text, self.lines, code, place)
@@ -134,20 +137,31 @@ impl Session {
     }
 
     /// Answers the line that is begun, and gives the sink its reply.
-    fn answer_line<K: Sink>(&mut self, sink: &mut K) -> Result<(), Stop>
-        requires { self.old.lines + 1 < 2 ^ 32 }
-        ensures stands { (s : State) (content : List ℕ) → StandFor self.old.network self.old.lines self.old.refused s → StandsFor self.old.cutter content → OnOk result (StandFor self.new.network self.new.lines self.new.refused (after_line s content)) }
-        ensures gives { (s : State) (content : List ℕ) → StandFor self.old.network self.old.lines self.old.refused s → StandsFor self.old.cutter content → GivingEnds result (K.held sink.old) (K.held sink.new) (K.faults sink.old) (K.faults sink.new) s (content ∷ []) }
+    fn answer_line<K: Sink, R: Threads + Sync, G: Gate>(
+        &mut self,
+        crew: &Crew<'_, R, G>,
+        sink: &mut K,
+    ) -> Result<(), Stop>
+        requires few { self.old.lines + 1 < 2 ^ 32 }
+        requires stands { (s : State) × StandFor self.old.network self.old.smooth self.old.lines self.old.refused s }
+        ensures stands { (s : State) (content : List ℕ) → StandFor self.old.network self.old.smooth self.old.lines self.old.refused s → StandsFor self.old.cutter content → OnOk result (StandFor self.new.network self.new.smooth self.new.lines self.new.refused (after_line s content)) }
+        ensures gives { (s : State) (content : List ℕ) → StandFor self.old.network self.old.smooth self.old.lines self.old.refused s → StandsFor self.old.cutter content → GivingEnds result (K.held sink.old) (K.held sink.new) (K.faults sink.old) (K.faults sink.new) s (content ∷ []) }
         ensures lines { self.new.lines ≡ self.old.lines + 1 }
         ensures later { K.faults sink.old ≤ K.faults sink.new }
     {
-        self.answer()?;
+        self.answer(crew)?;
         give(sink, self.text.as_str())
     }
 
     /// Takes the piece up to and with its first newline, or all of it, and answers the line that is
     /// whole then. Says how many bytes it took.
-    fn answer_front<K: Sink>(&mut self, piece: &[u8], sink: &mut K) -> Result<usize, Stop>
+    fn answer_front<K: Sink, R: Threads + Sync, G: Gate>(
+        &mut self,
+        crew: &Crew<'_, R, G>,
+        piece: &[u8],
+        sink: &mut K,
+    ) -> Result<usize, Stop>
+        requires stands { IsSomewhere self.old }
         requires some { 0 < length piece.now }
         requires opened { self.old.cutter.whole ≡ false }
         requires few { self.old.lines + 1 < 2 ^ 32 }
@@ -160,14 +174,20 @@ impl Session {
     {
         let cut = self.cutter.feed(piece);
         if cut.whole {
-            self.answer_line(sink)?;
+            self.answer_line(crew, sink)?;
             self.cutter.clear();
         }
         Ok(cut.used)
     }
 
     /// Takes a piece of the input, and answers each line that is whole then.
-    pub fn answer_piece<K: Sink>(&mut self, piece: &[u8], sink: &mut K) -> Result<(), Stop>
+    pub fn answer_piece<K: Sink, R: Threads + Sync, G: Gate>(
+        &mut self,
+        crew: &Crew<'_, R, G>,
+        piece: &[u8],
+        sink: &mut K,
+    ) -> Result<(), Stop>
+        requires stands { IsSomewhere self.old }
         requires opened { self.old.cutter.whole ≡ false }
         requires few { self.old.lines + length piece.now < 2 ^ 32 }
         ensures takes { (s : State) (content : List ℕ) → IsAt self.old s content → TakesPiece result self.new (K.held sink.old) (K.held sink.new) (K.faults sink.old) (K.faults sink.new) s content piece.now }
@@ -177,15 +197,20 @@ impl Session {
     {
         let mut rest = piece;
         while !rest.is_empty() {
-            let used = self.answer_front(rest, sink)?;
+            let used = self.answer_front(crew, rest, sink)?;
             rest = &rest[used..];
         }
         Ok(())
     }
 
     /// Answers what stands behind the last newline of the input, where that is not empty.
-    pub fn answer_last<K: Sink>(&mut self, sink: &mut K) -> Result<(), Stop>
-        requires { self.old.lines + 1 < 2 ^ 32 }
+    pub fn answer_last<K: Sink, R: Threads + Sync, G: Gate>(
+        &mut self,
+        crew: &Crew<'_, R, G>,
+        sink: &mut K,
+    ) -> Result<(), Stop>
+        requires few { self.old.lines + 1 < 2 ^ 32 }
+        requires stands { IsSomewhere self.old }
         ensures gives { (s : State) (content : List ℕ) → IsAt self.old s content → GivingEnds result (K.held sink.old) (K.held sink.new) (K.faults sink.old) (K.faults sink.new) s (line_if_some content) }
         ensures refused { (s : State) (content : List ℕ) → IsAt self.old s content → OnOk result (self.new.refused ≡ (after_lines s (line_if_some content)).refused) }
         ensures later { K.faults sink.old ≤ K.faults sink.new }
@@ -193,7 +218,7 @@ impl Session {
         if self.is_line_empty() {
             Ok(())
         } else {
-            self.answer_line(sink)
+            self.answer_line(crew, sink)
         }
     }
 
@@ -228,41 +253,27 @@ fn give<K: Sink>(sink: &mut K, text: &str) -> Result<(), Stop>
 }
 
 /// Does what a line asks for that does not begin a graph, and puts the reply behind the text.
-fn obey_in(network: &mut Network, text: &mut String, line: Line) -> Result<(), AllocError>
-    requires fits { Fits network.old.vertices line }
+fn obey_in<R: Threads + Sync, G: Gate>(
+    network: &mut Network,
+    crew: &Crew<'_, R, G>,
+    text: &mut String,
+    line: Line,
+) -> Result<(), AllocError>
+    requires fits { Fits network.old.opening line }
     requires goes_on { (n : ℕ) → line ≡ Line.Vertices n → ⊥ }
-    ensures stands { (s : State) → HasNetwork (Some network.old) s → OnOk result (HasNetwork (Some network.new) (accepted s line)) }
-    ensures reply { (s : State) → HasNetwork (Some network.old) s → OnOk result (AppendsReply s.vertices s.commands line (string_bytes text.old) (string_bytes text.new)) }
+    requires ready { IsReady (Some network.old) }
+    ensures stands { (s : State) → IsNetworkOf network.old s → OnOk result (IsNetworkOf network.new (accepted (counted s) line)) }
+    ensures reply { (s : State) → IsNetworkOf network.old s → OnOk result (GrowsBy (HasReply s.vertices s.smooth s.commands line) (string_bytes text.old) (string_bytes text.new)) }
 {
     match line {
-        Line::Star(star) => {
-            network.apply(&star);
-            Ok(())
-        }
-        Line::Edge { u, v, w } => {
-            network.put_edge(u, v, Some(w));
-            Ok(())
-        }
-        Line::Cut { u, v } => {
-            network.put_edge(u, v, None);
-            Ok(())
-        }
+        Line::Star(star) => network.apply(crew, &star),
+        Line::Edge { u, v, w } => network.put_edge(crew, u, v, Some(w)),
+        Line::Cut { u, v } => network.put_edge(crew, u, v, None),
         Line::Dist { x, y } => network.put_dist(text, x, y),
+        Line::Path { x, y } => network.put_path(text, x, y),
         Line::Row { x } => network.put_row(text, x),
-        _ => Ok(()),
-    }
-}
-
-/// Refuses the questions that are not answered yet.
-fn serve(line: Line) -> Result<Line, LineError>
-    ensures reading { IsAnswer (served line) result }
-    ensures same { IfOk result (λ l. l ≡ line) }
-{
-    match line {
-        Line::Path { .. } | Line::Stats | Line::Age(_) => Err(LineError::Refused {
-            code: COMMAND,
-            place: 1,
-        }),
-        line => Ok(line),
+        Line::Stats => network.put_stats(text),
+        Line::Age(list) => network.put_age(text, list.items()),
+        Line::Nothing | Line::Vertices(_) => Ok(()),
     }
 }

@@ -10,15 +10,16 @@ use std::thread::Threads;
 
 /// A script of the lines with most kinds of words, and its replies.
 const LINES: &str =
-    "# roads\nvertices 3\r\n\tedge  0 1 5\nedge 1 2 6\n\ncut 0 1\ncut 0 1\nrow 0\nrow 1\ndist 0\nedge 1 1 2\nfoo\npath 0 3\nstar 0 1:2\nstar 0 out 1:x\n";
+    "# roads\nvertices 3\r\n\tedge  0 1 5\nedge 1 2 6\n\ncut 0 1\ncut 0 1\nrow 0\nrow 1\ndist 0\nedge 1 1 2\nfoo\npath 0 3\nstar 0 1:2\nstar 0 out 1:x\nstats\n";
 
 const REPLIES: &str =
-    "row 0 0 none none\nrow 1 none 0 6\nline 10 error 4 at 3\nline 11 error 7 at 3\nline 12 error 3 at 1\nline 13 error 6 at 3\nline 14 error 4 at 3\nline 15 error 5 at 4\n";
+    "row 0 0 none none\nrow 1 none 0 6\nline 10 error 4 at 3\nline 11 error 7 at 3\nline 12 error 3 at 1\nline 13 error 6 at 3\nline 14 error 4 at 3\nline 15 error 5 at 4\nstats updates 4 steps 4 paths 1 historical 1 formed 0 removed 0\n";
 
-/// The status of a run over the input, without words, and what the sink holds then.
+/// The status of a run over the input with these words, and what the sink holds then.
 fn run_over<R: Threads + Wait + Sync>(
     rt: &R,
     alloc: Global,
+    words: &[String],
     input: &[u8],
     piece: usize,
     takes: &[u64],
@@ -28,8 +29,17 @@ fn run_over<R: Threads + Wait + Sync>(
 {
     let mut source = MemorySource::new(input.to_vec(alloc)?, piece, takes.to_vec(alloc)?);
     let mut sink = MemorySink::new(alloc, gives.to_vec(alloc)?);
-    let status = top(rt, alloc, &[], &mut source, &mut sink, &OpenGate);
+    let status = top(rt, alloc, words, &mut source, &mut sink, &OpenGate);
     Ok((status, sink.held().to_vec(alloc)?))
+}
+
+/// The words of a command line.
+fn words_of(alloc: Global, line: &str) -> Result<Vec<String>, Fail> {
+    let mut words = Vec::new(alloc);
+    for word in line.split(' ') {
+        words.push(String::from_str(alloc, word)?)?;
+    }
+    Ok(words)
 }
 
 #[test]
@@ -66,7 +76,7 @@ fn scripts_are_answered(rt: HostRuntime) -> Result<(), Fail> {
         (LINES, REPLIES, 1),
     ] {
         for piece in [1, 7, 4096] {
-            let (ended, held) = run_over(&rt, rt.alloc(), input.as_bytes(), piece, &[], &[])?;
+            let (ended, held) = run_over(&rt, rt.alloc(), &[], input.as_bytes(), piece, &[], &[])?;
             assert_eq!(rt; ended, status, "{input:?} in pieces of {piece}");
             assert_eq!(rt;
                 held.as_slice(),
@@ -79,6 +89,41 @@ fn scripts_are_answered(rt: HostRuntime) -> Result<(), Fail> {
 }
 
 #[test]
+fn questions_are_answered(rt: HostRuntime) -> Result<(), Fail> {
+    for (words, input, text) in [
+        // The path 0 2 was least before the second update, and has been touched by none since.
+        (
+            "run",
+            "vertices 3\nstar 0 out 1:4 2:9\nstar 1 out 2:3 in 0:4\nstats\nstar 1\nage 0 2\npath 0 2\nage 0 1\nstats\n",
+            "stats updates 2 steps 2 paths 4 historical 4 formed 3 removed 1\nage 0 2 birth 1\npath 0 2 9 walk 0 2\nage 0 1 none\nstats updates 3 steps 3 paths 1 historical 1 formed 0 removed 3\n",
+        ),
+        // The second update is followed by a cleaning step, which adds the path 0 2 once more.
+        (
+            "run --smooth",
+            "vertices 3\nstar 0 out 1:4 2:9\nstar 1 out 2:3 in 0:4\nstats\nage 0 2\npath 0 2\nrow 0\n",
+            "stats updates 2 steps 3 paths 4 historical 3 formed 6 removed 4\nage 0 2 birth 3\npath 0 2 7 walk 0 1 2\nrow 0 0 4 7\n",
+        ),
+        // Of two ways of one weight and one number of edges the first in the order of lists is taken.
+        (
+            "run",
+            "vertices 4\nstar 0 out 1:1 2:2\nstar 3 in 1:2 2:1\npath 0 3\nedge 0 3 3\npath 0 3\nage 0 1 3\ncut 0 3\npath 3 0\n",
+            "path 0 3 3 walk 0 1 3\npath 0 3 3 walk 0 3\nage 0 1 3 birth 3\npath 3 0 none\n",
+        ),
+        (
+            "run",
+            "vertices 1\npath 0 0\nage 0\nage 0 0\nstats\n",
+            "path 0 0 0 walk 0\nage 0 birth 0\nage 0 0 none\nstats updates 0 steps 0 paths 0 historical 0 formed 0 removed 0\n",
+        ),
+    ] {
+        let words = words_of(rt.alloc(), words)?;
+        let (status, held) = run_over(&rt, rt.alloc(), &words, input.as_bytes(), 64, &[], &[])?;
+        assert_eq!(rt; status, 0, "{input:?}");
+        assert_eq!(rt; held.as_slice(), text.as_bytes(), "{input:?}");
+    }
+    Ok(())
+}
+
+#[test]
 fn long_lines_are_refused(rt: HostRuntime) -> Result<(), Fail> {
     let alloc = rt.alloc();
     let mut input = b"vertices 2\n".to_vec(alloc)?;
@@ -86,7 +131,7 @@ fn long_lines_are_refused(rt: HostRuntime) -> Result<(), Fail> {
     input.extend_from_slice(b"\n")?;
     input.extend_from_slice(&vec![in alloc; b'x'; 65536]?)?;
     input.extend_from_slice(b"\ndist 0 1")?;
-    let (status, held) = run_over(&rt, rt.alloc(), &input, 7, &[], &[])?;
+    let (status, held) = run_over(&rt, rt.alloc(), &[], &input, 7, &[], &[])?;
     assert_eq!(rt; status, 1);
     assert_eq!(rt;
         held.as_slice(),
@@ -98,7 +143,7 @@ fn long_lines_are_refused(rt: HostRuntime) -> Result<(), Fail> {
 #[test]
 fn a_failing_source_ends_the_run(rt: HostRuntime) -> Result<(), Fail> {
     let input = b"vertices 2\ndist 0 1\ndist 1 0\ndist 0 0\ndist 1 1\n";
-    let (status, held) = run_over(&rt, rt.alloc(), input, 20, &[3], &[])?;
+    let (status, held) = run_over(&rt, rt.alloc(), &[], input, 20, &[3], &[])?;
     assert_eq!(rt; status, 3);
     assert_eq!(rt;
         held.as_slice(),
@@ -108,8 +153,8 @@ fn a_failing_source_ends_the_run(rt: HostRuntime) -> Result<(), Fail> {
     // Cut at each byte, the replies are those of the whole lines before it.
     let lines = LINES.as_bytes();
     for cut in 0..lines.len() {
-        let (status, held) = run_over(&rt, rt.alloc(), lines, 1, &[cut as u64 + 1], &[])?;
-        let (_, whole) = run_over(&rt, rt.alloc(), whole_lines(&lines[..cut]), 9, &[], &[])?;
+        let (status, held) = run_over(&rt, rt.alloc(), &[], lines, 1, &[cut as u64 + 1], &[])?;
+        let (_, whole) = run_over(&rt, rt.alloc(), &[], whole_lines(&lines[..cut]), 9, &[], &[])?;
         assert_eq!(rt; status, 3, "cut at {cut}");
         assert_eq!(rt; held.as_slice(), whole.as_slice(), "cut at {cut}");
     }
@@ -130,6 +175,7 @@ fn a_failing_sink_ends_the_run(rt: HostRuntime) -> Result<(), Fail> {
     let (status, held) = run_over(
         &rt,
         rt.alloc(),
+        &[],
         b"vertices 2\ndist 0 1\ndist 1 0\n",
         4096,
         &[],
@@ -137,10 +183,11 @@ fn a_failing_sink_ends_the_run(rt: HostRuntime) -> Result<(), Fail> {
     )?;
     assert_eq!(rt; status, 4);
     assert_eq!(rt; held.as_slice(), b"dist 0 1 none\ndist".as_slice());
-    for call in 1..9 {
+    for call in 1..10 {
         let (status, held) = run_over(
             &rt,
             rt.alloc(),
+            &[],
             LINES.as_bytes(),
             7,
             &[],
@@ -157,6 +204,8 @@ fn other_words_are_refused(rt: HostRuntime) -> Result<(), Fail> {
     let alloc = rt.alloc();
     for (line, status) in [
         ("run", 1),
+        ("run --smooth", 1),
+        ("run --workers 4", 2),
         ("run --workers 65", 2),
         ("run --workers 04", 2),
         ("run --workers=4", 2),
@@ -167,10 +216,7 @@ fn other_words_are_refused(rt: HostRuntime) -> Result<(), Fail> {
         ("walk", 2),
         ("check --smooth", 2),
     ] {
-        let mut words = Vec::new(alloc);
-        for word in line.split(' ') {
-            words.push(String::from_str(alloc, word)?)?;
-        }
+        let words = words_of(alloc, line)?;
         let input = b"dist 0 1\n".to_vec(alloc)?;
         let mut source = MemorySource::new(input, 1, Vec::new(alloc));
         let mut sink = MemorySink::new(alloc, Vec::new(alloc));

@@ -1,5 +1,6 @@
 ghost use Rattle.std.specs.Prelude.{◌≡◌, map, string_bytes};
 ghost use Rattle.apsp_service.specs.Words.{mode_of, run_of};
+ghost use Rattle.apsp_service.specs.declared.words.Mode.TheVariants as mode;
 
 /// What the program is to do.
 #[derive(Clone, Copy, Debug, PartialEq, Eq)]
@@ -9,7 +10,7 @@ pub enum Mode {
 }
 
 /// The mode that the words of the command line give, and none where they are not in the grammar:
-/// no words, or the word `run`. Takes no memory.
+/// no words, or the word `run`, with the option `--smooth` or without it. Takes no memory.
 pub fn read_words(words: &[String]) -> Option<Mode>
     ensures { result ≡ mode_of (map string_bytes words.now) }
 {
@@ -24,12 +25,16 @@ pub fn read_words(words: &[String]) -> Option<Mode>
 fn run_mode(options: &[String]) -> Option<Mode>
     ensures { result ≡ run_of (map string_bytes options.now) }
 {
-    if options.is_empty() {
-        Some(Mode::Run {
-            workers: 4,
-            smooth: false,
-        })
-    } else {
-        None
+    match options {
+        [] => Some(run(false)),
+        [option] if option.as_str() == "--smooth" => Some(run(true)),
+        _ => None,
     }
+}
+
+/// The mode `run` with as many workers as it has where the words do not say.
+fn run(smooth: bool) -> Mode
+    ensures { result ≡ mode.Run 4 smooth }
+{
+    Mode::Run { workers: 4, smooth }
 }

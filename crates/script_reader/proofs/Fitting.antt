@@ -1,5 +1,5 @@
 -- The numbers of an accepted line are in range.
-use Rattle.std.specs.Prelude.{◌≡◌, ◌≢◌, ℕ, ◌+◌, ◌<◌, ◌≤◌, Bool, true, false, ◌==◌, ◌&&◌, nat_lt, nat_le, is_some, if◌then◌else◌, List, [], ◌∷◌, All, Option, Some, None, Result, Ok, Err, IfOk, refl}
+use Rattle.std.specs.Prelude.{◌≡◌, ◌≢◌, ℕ, ◌+◌, ◌<◌, ◌≤◌, Bool, true, false, ◌==◌, ◌&&◌, nat_lt, nat_le, is_some, if◌then◌else◌, List, [], ◌∷◌, length, All, Option, Some, None, Result, Ok, Err, IfOk, refl}
 use Rattle.std.specs.List.{before_first, after_first}
 use Rattle.std.specs.FinMap as map
 use Rattle.std.proofs.Common.{sym, ◌∙◌, subst, inl, inr, arith}
@@ -68,18 +68,22 @@ weight_fits place word w e =
     ok_same : (x y : ℕ) → ◌≡◌ {A = Result ℕ Refusal} (Ok x) (Ok y) → x ≡ y
     ok_same x y e = cc
 
+same_list : (xs ys : List ℕ) → ◌≡◌ {A = Result (List ℕ) Refusal} (Ok xs) (Ok ys) → xs ≡ ys
+same_list xs ys e = cc
+
 vertices_fit : (n place : ℕ) (ws : List (List ℕ)) (us : List ℕ) → vertices_at n place ws ≡ Ok us → All (λ x. x < n) us
-vertices_fit n place [] us e = subst (All (λ x. x < n)) (empty us e) (All-nil (λ x. x < n))
-  where
-    empty : (us : List ℕ) → ◌≡◌ {A = Result (List ℕ) Refusal} (Ok []) (Ok us) → [] ≡ us
-    empty us e = cc
+vertices_fit n place [] us e = subst (All (λ x. x < n)) (same_list [] us e) (All-nil (λ x. x < n))
 vertices_fit n place (w ∷ ws) us e =
     let b = bound (vertex_at n place w) (λ u. vertices_at n (place + 1) ws >>= (λ vs. Ok (u ∷ vs))) us e in
     let d = bound (vertices_at n (place + 1) ws) (λ vs. Ok (b.value ∷ vs)) us b.second in
-    subst (All (λ x. x < n)) (same (b.value ∷ d.value) us d.second) (All-cons (λ x. x < n) b.value d.value (vertex_fits n place w b.value b.first) (vertices_fit n (place + 1) ws d.value d.first))
-  where
-    same : (xs ys : List ℕ) → ◌≡◌ {A = Result (List ℕ) Refusal} (Ok xs) (Ok ys) → xs ≡ ys
-    same xs ys e = cc
+    subst (All (λ x. x < n)) (same_list (b.value ∷ d.value) us d.second) (All-cons (λ x. x < n) b.value d.value (vertex_fits n place w b.value b.first) (vertices_fit n (place + 1) ws d.value d.first))
+
+-- of one word or more there is a vertex
+vertices_some : (n place : ℕ) (w : List ℕ) (ws : List (List ℕ)) (us : List ℕ) → vertices_at n place (w ∷ ws) ≡ Ok us → 0 < length us
+vertices_some n place w ws us e =
+    let b = bound (vertex_at n place w) (λ u. vertices_at n (place + 1) ws >>= (λ vs. Ok (u ∷ vs))) us e in
+    let d = bound (vertices_at n (place + 1) ws) (λ vs. Ok (b.value ∷ vs)) us b.second in
+    subst (λ vs. 0 < length vs) (same_list (b.value ∷ d.value) us d.second) (omega arith)
 
 star_edge_fits : (s : Star_model) (g : Group) (place u w : ℕ) (t : Star_model) → IsStar s → star_with_edge s g place u w ≡ Ok t → (t.vertices ≡ s.vertices) × IsStar t
 star_edge_fits s g place u w t star e =
@@ -221,15 +225,15 @@ row_line_fits n (a ∷ []) l e =
     subst (Fits n) (as_line (Row x.value) l x.second) (vertex_fits n 2 a x.value x.first)
 row_line_fits n (a ∷ b ∷ ws) l e = cc
 
-stats_line_fits : (n : ℕ) (ws : List (List ℕ)) (l : Line) → stats_line ws ≡ Ok l → Fits n l
-stats_line_fits n [] l e = subst (Fits n) (as_line Stats l e) tt
-stats_line_fits n (w ∷ ws) l e = cc
+stats_line_fits : (n : ℕ) (ws : List (List ℕ)) (l : Line) → IsVertexCount n → stats_line ws ≡ Ok l → Fits n l
+stats_line_fits n [] l count e = subst (Fits n) (as_line Stats l e) (omega (arith, count.some))
+stats_line_fits n (w ∷ ws) l count e = cc
 
 age_line_fits : (n : ℕ) (ws : List (List ℕ)) (l : Line) → age_line n ws ≡ Ok l → Fits n l
 age_line_fits n [] l e = cc
 age_line_fits n (w ∷ ws) l e =
     let us = bound (vertices_at n 2 (w ∷ ws)) (λ us. Ok (Age us)) l e in
-    subst (Fits n) (as_line (Age us.value) l us.second) (vertices_fit n 2 (w ∷ ws) us.value us.first)
+    subst (Fits n) (as_line (Age us.value) l us.second) (vertices_some n 2 w ws us.value us.first, vertices_fit n 2 (w ∷ ws) us.value us.first)
 
 line_fits : (c : Command) (n : ℕ) (ws : List (List ℕ)) (l : Line) → (c ≢ command.Vertices → IsVertexCount n) → line_with c n ws ≡ Ok l → Fits n l
 line_fits command.Vertices n ws l count e = vertices_line_fits n ws l e
@@ -239,7 +243,7 @@ line_fits command.Cut n ws l count e = cut_line_fits n ws l e
 line_fits command.Dist n ws l count e = dist_fits n ws l e
 line_fits command.Path n ws l count e = path_fits n ws l e
 line_fits command.Row n ws l count e = row_line_fits n ws l e
-line_fits command.Stats n ws l count e = stats_line_fits n ws l e
+line_fits command.Stats n ws l count e = stats_line_fits n ws l (count (λ h. cc)) e
 line_fits command.Age n ws l count e = age_line_fits n ws l e
 line_fits command.Block n ws l count e = cc
 line_fits command.Ask n ws l count e = cc

@@ -11,7 +11,7 @@ use Rattle.script_reader.specs.declared.code.TheConstants.{SHAPE, VERTEX, SELF_E
 use Rattle.script_reader.specs.declared.LineError.{LineError}
 use Rattle.script_reader.specs.declared.LineError.TheVariants.{Refused, Memory}
 use Rattle.script_reader.specs.declared.Line.{Line}
-use Rattle.script_reader.specs.declared.Line.TheVariants.{Vertices, Star, Edge, Cut, Dist, Path, Row, Age}
+use Rattle.script_reader.specs.declared.Line.TheVariants.{Vertices, Star, Edge, Cut, Dist, Path, Row, Stats, Age}
 use Rattle.script_reader.specs.declared.scan.Word.{Word}
 use Rattle.script_reader.specs.declared.scan.Words.{Words}
 use Rattle.script_reader.specs.Scan.{words_left}
@@ -81,5 +81,6 @@ Fits n (Cut u v) = (u < n) × (v < n) × (u ≢ v)
 Fits n (Dist x y) = (x < n) × (y < n)
 Fits n (Path x y) = (x < n) × (y < n)
 Fits n (Row x) = x < n
-Fits n (Age list) = All (λ x. x < n) list
+Fits n Stats = 0 < n
+Fits n (Age list) = (0 < length list) × All (λ x. x < n) list
 Fits n _ = ⊤

@@ -5,7 +5,7 @@ use Rattle.apsp_service.proofs.run.answer_all.Given as goal
 
 abbrev pub invariant-loop-count : goal.invariant-loop-count
 invariant-loop-count g l =
-    ((bytes : List ℕ) × SoFar l.session (g.S.Source.left l.initial.source) (g.S.Source.left l.source) (g.K.Sink.held l.initial.sink) (g.K.Sink.held l.sink) bytes × (length bytes ≡ l.taken))
+    ((bytes : List ℕ) × SoFar l.initial.session.smooth l.session (g.S.Source.left l.initial.source) (g.S.Source.left l.source) (g.K.Sink.held l.initial.sink) (g.K.Sink.held l.sink) bytes × (length bytes ≡ l.taken))
     × (l.taken ≤ MOST_INPUT)
     × (l.session.lines ≤ l.taken)
     × (l.session.cutter.whole ≡ false)

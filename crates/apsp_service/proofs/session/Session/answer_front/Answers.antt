@@ -2,6 +2,9 @@ use Rattle.std.proofs.Common.{◌∙◌}
 use Rattle.apsp_service.proofs.Taken.{takes_open, takes_whole, front_stops, cut_inside, cut_some}
 use Rattle.apsp_service.proofs.session.Session.answer_front.Goals as goal
 
+pub answer_line-requires-clause-stands : goal.answer_line-requires-clause-stands
+answer_line-requires-clause-stands g c κs within = (c.requires.stands.0, c.requires.stands.2.stands)
+
 pub returns-in_err-answer_line-clause-takes : goal.returns-in_err-answer_line-clause-takes
 returns-in_err-answer_line-clause-takes g c = λ s content at.
     front_stops _ _ _ _ _ _ _ s content _ _ c.from_residual.ensures.1 (record { whole = c.feed-cut.ensures.whole; used = c.feed-cut.ensures.used }) c.if-cut.true

@@ -1,7 +1,14 @@
 use Rattle.std.proofs.Common.{rules, arith, length-take, length-drop}
 use Rattle.std.proofs.lemmas.Grind.{common_steps}
-use Rattle.apsp_service.proofs.Taken.{took_front, took_all, piece_stops}
+use Rattle.apsp_service.proofs.Taken.{took_nothing, took_front, took_all, piece_stops}
 use Rattle.apsp_service.proofs.session.Session.answer_piece.Goals as goal
+
+pub loop-rest-init : goal.loop-rest-init
+loop-rest-init g c = (λ s content at. took_nothing _ _ s content _ at, c.requires.opened, omega arith, omega arith)
+
+pub answer_front-requires-clause-stands : goal.answer_front-requires-clause-stands
+answer_front-requires-clause-stands g c κs within =
+    let at = c.requires.stands in (_, _, (c.loop-rest.invariant.0 at.0 at.1 at.2).after)
 
 pub returns-in_err-used-clause-takes : goal.returns-in_err-used-clause-takes
 returns-in_err-used-clause-takes g c = λ s content at.

@@ -1,0 +1,20 @@
+use Rattle.std.proofs.Common.{List, ℕ, subst}
+use Rattle.std.specs.Prelude.{Some, None, OnOk, string_bytes}
+use Rattle.apsp_service.specs.Age.{IsAgeReply}
+use Rattle.apsp_service.specs.Giving.{GrowsBy}
+use Rattle.apsp_service.proofs.Standing.{advanced, edge_advanced, of_network}
+use Rattle.apsp_service.proofs.session.obey_in.Goals as goal
+
+pub returns-in-Star-clause-stands : goal.returns-in-Star-clause-stands
+returns-in-Star-clause-stands g c = λ s is. rw c.in-Star.is (advanced _ _ _ s _ is c.apply.ensures)
+
+pub returns-in-Edge-clause-stands : goal.returns-in-Edge-clause-stands
+returns-in-Edge-clause-stands g c = λ s is. rw c.in-Edge.is (edge_advanced _ _ _ s c.in-Edge.u c.in-Edge.v (Some c.in-Edge.w) is c.put_edge.ensures)
+
+pub returns-in-Cut-clause-stands : goal.returns-in-Cut-clause-stands
+returns-in-Cut-clause-stands g c = λ s is. rw c.in-Cut.is (edge_advanced _ _ _ s c.in-Cut.u c.in-Cut.v None is c.put_edge-in-Cut.ensures)
+
+pub returns-in-Age-clause-reply : goal.returns-in-Age-clause-reply
+returns-in-Age-clause-reply g c = λ s is.
+    let P : List ℕ → Type 0 = λ list. OnOk c.put_age.result (GrowsBy (IsAgeReply s.vertices s.smooth s.commands list) (string_bytes c.args.text.now) (string_bytes c.put_age.new.text)) in
+    rw c.in-Age.is (subst P c.items.ensures (of_network _ (λ n smooth. IsAgeReply n smooth s.commands c.items.result.now) _ s _ _ is (c.put_age.ensures s.commands is.stands)))
