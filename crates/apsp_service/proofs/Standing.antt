@@ -1,11 +1,11 @@
 -- A session goes on standing for the lines that were read.
-use Rattle.std.proofs.Common.{◌≡◌, ℕ, ◌+◌, ◌<◌, ◌≤◌, ◌^◌, List, [], ◌∷◌, length, length-append, refl, sym, ap, subst, ◌∙◌, arith}
-use Rattle.std.specs.Prelude.{Bool, true, Option, Some, None, Result, Ok, Err, OnOk}
+use Rattle.std.proofs.Common.{◌≡◌, ℕ, ◌+◌, ◌<◌, ◌^◌, List, [], ◌∷◌, length, length-append, refl, sym, ap, subst, ◌∙◌, arith}
+use Rattle.std.specs.Prelude.{Bool, Option, Some, None, Result, Ok, Err, OnOk}
 use Rattle.apsp_model.specs.Command.{Update, graph_of}
 use Rattle.apsp_model.specs.Graph.{Graph}
 use Rattle.apsp_model.specs.Star.{Star}
 use Rattle.history_engine.specs.Seen.{Seen}
-use Rattle.history_engine.specs.Advance.{Stands, Advance}
+use Rattle.history_engine.specs.Advance.{Advance}
 use Rattle.history_engine.proofs.Moments.{law}
 use Rattle.script_reader.specs.Meaning.{line_of}
 use Rattle.script_reader.specs.Refused.{Refusal}

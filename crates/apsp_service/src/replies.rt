@@ -37,12 +37,7 @@ pub fn put_stats(text: &mut String, counts: Counts) -> Result<(), AllocError>
     write!(
         text,
         "stats updates {} steps {} paths {} historical {} formed {} removed {}\n",
-        counts.updates,
-        counts.steps,
-        counts.paths,
-        counts.historical,
-        counts.formed,
-        counts.removed
+        counts.updates, counts.steps, counts.paths, counts.historical, counts.formed, counts.removed
     )
 }
 

@@ -115,7 +115,10 @@ impl Session {
     }
 
     /// Answers the line that is begun: the text is its reply then.
-    fn answer<R: Threads + Sync, G: Gate>(&mut self, crew: &Crew<'_, R, G>) -> Result<(), AllocError>
+    fn answer<R: Threads + Sync, G: Gate>(
+        &mut self,
+        crew: &Crew<'_, R, G>,
+    ) -> Result<(), AllocError>
         requires few { self.old.lines + 1 < 2 ^ 32 }
         requires stands { (s : State) × StandFor self.old.network self.old.smooth self.old.lines self.old.refused s }
         ensures stands { (s : State) (content : List ℕ) → StandFor self.old.network self.old.smooth self.old.lines self.old.refused s → StandsFor self.old.cutter content → OnOk result (StandFor self.new.network self.new.smooth self.new.lines self.new.refused (after_line s content)) }
