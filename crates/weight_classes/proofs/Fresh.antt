@@ -1,8 +1,8 @@
 -- Classes when a path is added to the arena under an id that was not live.
-use Rattle.std.specs.Prelude.{◌≡◌, ◌≢◌, ℕ, Option, Some, None, IsSome, is_some, unwrap_or, refl}
+use Rattle.std.specs.Prelude.{◌≡◌, ℕ, None, IsSome, is_some, unwrap_or, refl}
 use Rattle.std.proofs.Common.{sym, ◌∙◌, ap, subst}
 use Rattle.std.proofs.lemmas.Bool.{false≢true}
-use Rattle.path_arena.specs.Arena.{Arena, Path, path_at, IsLive, weight_of, with_path, no_path}
+use Rattle.path_arena.specs.Arena.{Arena, Path, path_at, IsLive, with_path, no_path}
 use Rattle.path_arena.proofs.Keys.{get_put, get_put_other}
 use Rattle.weight_classes.specs.Classes.{Classes, IsHeld, Fits}
 use Rattle.weight_classes.proofs.Held.{fits_agree, held_is_live}

@@ -1,5 +1,5 @@
 -- The held ids by weight, when one more is held, and when an arena fits.
-use Rattle.std.specs.Prelude.{◌≡◌, ◌≢◌, ℕ, ◌+◌, ◌<◌, ◌≤◌, ◌⊎◌, ◌↔◌, Bool, true, false, cond, List, [], ◌∷◌, ◌++◌, length, map, Option, Some, None, Vec, refl, Contains, Result, Ok, Err, OnOk, OnErr, is_ok}
+use Rattle.std.specs.Prelude.{◌≡◌, ◌≢◌, ℕ, ◌+◌, ◌<◌, ◌≤◌, ◌⊎◌, true, false, cond, List, [], ◌∷◌, ◌++◌, length, Some, None, Vec, refl, Contains, Result, Ok, Err, OnOk, OnErr, is_ok}
 use Rattle.std.specs.Map.{lookup, set_value}
 use Rattle.std.specs.Ordering.{nat_cmp, is_eq, match_ordering}
 use Rattle.std.specs.BTreeMap.{is_at, insert_entry}
@@ -13,7 +13,7 @@ use Rattle.std.proofs.lemmas.List.{length_push}
 use Rattle.std.proofs.lemmas.List.Elements.{Contains-append_left, Contains-push, Contains-push_cases}
 use Rattle.path_arena.specs.declared.id.PathId.{PathId}
 use Rattle.path_arena.specs.Arena.{Arena, IsLive, weight_of}
-use Rattle.weight_classes.specs.Classes.{Classes, HoldsAt, IsHeld, IsBucket, AreBuckets, AgreeOnHeld, Fits, count_held}
+use Rattle.weight_classes.specs.Classes.{Classes, HoldsAt, IsBucket, AreBuckets, AgreeOnHeld, Fits, count_held}
 use Rattle.weight_classes.specs.Inside.{held_in, AreRoomy, IsHeldMore}
 
 -- whether a key is the one that is sought

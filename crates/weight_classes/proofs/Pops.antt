@@ -1,17 +1,16 @@
 -- What taking the least weight out leaves of the classes.
-use Rattle.std.specs.Prelude.{◌≡◌, ◌≢◌, ℕ, suc, ◌+◌, ◌*◌, ◌<◌, ◌≤◌, ◌⊎◌, ◌↔◌, ◌==◌, true, false, List, [], ◌∷◌, length, map, slice_index, slice_index_or, Vec, refl, Contains}
-use Rattle.std.specs.List.{All}
+use Rattle.std.specs.Prelude.{◌≡◌, ℕ, suc, ◌+◌, ◌*◌, ◌<◌, ◌↔◌, ◌==◌, true, false, List, [], ◌∷◌, length, map, slice_index, slice_index_or, Vec, refl, Contains}
 use Rattle.std.specs.declared.alloc.Global.{Global}
 use Rattle.std.specs.Ordering.{nat_cmp}
 use Rattle.std.specs.declared.cmp.Ordering.TheVariants.{Less}
 use Rattle.std.proofs.lemmas.Cmp.{ranked}
 use Rattle.std.proofs.Common.{sym, ◌∙◌, ap, subst, arith, inl, inr, get_or}
-use Rattle.std.proofs.lemmas.Bool.{cases_lt, true≢false, false≢true, eqb-true, eq-eqb}
+use Rattle.std.proofs.lemmas.Bool.{cases_lt, false≢true, eqb-true, eq-eqb}
 use Rattle.std.proofs.lemmas.List.{get_or-map, get_or_past, length-map}
 use Rattle.std.proofs.lemmas.List.Elements.{Contains-get_or}
 use Rattle.path_arena.specs.declared.id.PathId.{PathId}
 use Rattle.path_arena.specs.Arena.{Arena}
-use Rattle.weight_classes.specs.Classes.{Classes, IsWon, IsHeld, HoldsAt, Fits, IsBucket, AreBuckets, count_held, first_of, last_of, SamePair, IsWinners, IsPopped}
+use Rattle.weight_classes.specs.Classes.{Classes, IsHeld, HoldsAt, Fits, AreBuckets, first_of, last_of, SamePair, IsPopped}
 use Rattle.weight_classes.specs.Inside.{held_in, won_in}
 use Rattle.weight_classes.specs.Choice.{place_of, HasEnds, IsChosen}
 use Rattle.weight_classes.proofs.Rows.{same_pair, in_order, place_below, one_place}

@@ -1,17 +1,16 @@
 -- Places in rows, by first and then by last vertex.
-use Rattle.std.specs.Prelude.{◌≡◌, ℕ, ◌+◌, ◌*◌, ◌<◌, ◌≤◌, List, [], ◌∷◌, Option, Some, None, IsSome, unwrap_or, refl, Contains, length}
+use Rattle.std.specs.Prelude.{◌≡◌, ℕ, ◌+◌, ◌*◌, ◌<◌, List, [], ◌∷◌, Option, Some, None, IsSome, unwrap_or, refl, Contains, length}
 use Rattle.std.specs.Ordering.{nat_cmp, ordering_then}
-use Rattle.std.specs.declared.cmp.Ordering.{Ordering}
-use Rattle.std.specs.declared.cmp.Ordering.TheVariants.{Less, Equal, Greater}
-use Rattle.std.proofs.Common.{sym, ◌∙◌, ap, subst, arith, inl, inr, get_or, add-one}
-use Rattle.std.proofs.lemmas.Bool.{cases_lt, cases_eq, false≢true}
+use Rattle.std.specs.declared.cmp.Ordering.TheVariants.{Less}
+use Rattle.std.proofs.Common.{sym, ◌∙◌, ap, arith, inl, inr, get_or, add-one}
+use Rattle.std.proofs.lemmas.Bool.{cases_lt, false≢true}
 use Rattle.std.proofs.lemmas.Bool.Decides.{nat_tests}
 use Rattle.std.proofs.lemmas.Cmp.{nat_cmp_total, tied_itself}
 use Rattle.std.proofs.lemmas.Nat.{mul-add-lt}
 use Rattle.std.proofs.lemmas.List.Elements.{Contains-append_right}
 use Rattle.apsp_model.specs.Walk.{first, last}
-use Rattle.path_arena.specs.Arena.{Arena, Path, IsArena, IsPath, IsLive, path_at, list_of, no_path}
-use Rattle.weight_classes.specs.Classes.{first_of, last_of, SamePair, pair_cmp, InOrder}
+use Rattle.path_arena.specs.Arena.{Arena, Path, IsArena, IsLive, path_at, list_of, no_path}
+use Rattle.weight_classes.specs.Classes.{first_of, last_of, SamePair, InOrder}
 use Rattle.weight_classes.specs.Choice.{place_of, HasEnds, AreRising}
 
 one_row : (n x y u v : ℕ) → y < n → v < n → x * n + y ≡ u * n + v → x < u → ⊥

@@ -1,5 +1,5 @@
 -- How the fields of classes show what they hold. No public clause cites this module.
-use Rattle.std.specs.Prelude.{◌≡◌, ℕ, ◌+◌, ◌*◌, ◌<◌, ◌≤◌, ◌==◌, ◌^◌, Bool, ◌⊎◌, ◌↔◌, ⊤, List, [], ◌∷◌, length, map, Vec, vec_len, vec_capacity, slice_index}
+use Rattle.std.specs.Prelude.{◌≡◌, ℕ, ◌+◌, ◌*◌, ◌<◌, ◌≤◌, ◌==◌, Bool, ◌⊎◌, ◌↔◌, ⊤, List, [], ◌∷◌, length, map, Vec, vec_len, vec_capacity, slice_index}
 use Rattle.std.specs.declared.alloc.Global.{Global}
 use Rattle.path_arena.specs.declared.id.PathId.{PathId}
 use Rattle.weight_classes.specs.declared.classes.Classes.TheInside.{Inside}

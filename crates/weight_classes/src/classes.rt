@@ -1,6 +1,6 @@
 //! The held ids by weight.
 
-ghost use Rattle.std.specs.Prelude.{◌≡◌, ℕ, ◌+◌, ◌*◌, ◌<◌, ◌≤◌, ◌⊎◌, ◌↔◌, [], Some, None, IfOk, OnOk, OnErr, MatchOption, IfNone, Contains, length, vec_len, vec_capacity, slice_index, ◌∷◌, ◌++◌};
+ghost use Rattle.std.specs.Prelude.{replicate, ◌≡◌, ℕ, ◌+◌, ◌*◌, ◌<◌, ◌≤◌, ◌⊎◌, ◌↔◌, [], Some, None, IfOk, OnOk, OnErr, MatchOption, IfNone, Contains, length, vec_len, vec_capacity, slice_index, ◌∷◌, ◌++◌};
 ghost use Rattle.std.specs.Ordering.{nat_cmp};
 ghost use Rattle.std.specs.BTreeMap.{get};
 ghost use Rattle.path_arena.specs.Arena.{Arena as Paths, IsLive, weight_of};
@@ -10,7 +10,7 @@ ghost use Rattle.weight_classes.specs.Inside.{AreRoomy, IsHeldMore, held_in};
 use crate::choice::{Key, choose, fill};
 use apsp_model::Memory;
 use path_arena::{Arena, PathId};
-use std::alloc::Global;
+use std::alloc::{AllocError, Global};
 use std::collections::BTreeMap;
 use std::marker::Model;
 
@@ -83,10 +83,9 @@ impl Classes {
         ensures unwon { IfOk result (λ c. (x y : ℕ) → IsWon c x y → ⊥) }
     {
         let places = n as usize * n as usize;
-        let mut won = Vec::with_capacity(alloc, places).map_err(|_| Memory)?;
-        'rounds: while won.len() < places {
-            won.push(0).map_err(|_| Memory)?;
-        }
+        let Ok(won) = no_rounds(alloc, places) else {
+            return Err(Memory);
+        };
         Ok(Classes {
             alloc,
             n,
@@ -138,6 +137,13 @@ impl Classes {
         let winners = choose(ids, &self.keys, &mut self.won, self.round, arena);
         Some(Class { weight, winners })
     }
+}
+
+/// The round before the first, so many times.
+fn no_rounds(alloc: Global, places: usize) -> Result<Vec<u32>, AllocError>
+    ensures { IfOk result (λ won. won.items ≡ replicate places 0) }
+{
+    vec![in alloc; 0; places]
 }
 
 /// A round in which no pair was won yet.

@@ -1,4 +1,4 @@
-use Rattle.std.proofs.Common.{◌≡◌, ◌∙◌, sym, ap, subst, arith, inl, inr, length, ◌+◌}
+use Rattle.std.proofs.Common.{ap, arith, ◌+◌}
 use Rattle.weight_classes.specs.declared.choice.Key.{Key}
 use Rattle.weight_classes.proofs.Rows.{place_inside}
 use Rattle.weight_classes.proofs.Winning.{SeenIn, at_index, seen_in_ids, seen_upto, seen_more, seen_all, chosen_more, chosen_same, some_winner}

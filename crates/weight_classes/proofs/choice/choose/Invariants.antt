@@ -1,4 +1,4 @@
-use Rattle.std.proofs.Common.{◌≡◌, ◌≤◌, length, vec_len, vec_capacity}
+use Rattle.std.proofs.Common.{◌≤◌, length, vec_len, vec_capacity}
 use Rattle.weight_classes.specs.Choice.{IsChosen}
 use Rattle.weight_classes.proofs.Winning.{SeenIn}
 use Rattle.weight_classes.proofs.choice.choose.Given as goal

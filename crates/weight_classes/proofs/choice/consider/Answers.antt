@@ -1,6 +1,6 @@
-use Rattle.std.proofs.Common.{◌≡◌, ◌∙◌, sym, ap, inl, inr, arith, refl}
+use Rattle.std.proofs.Common.{◌∙◌, sym, inr, arith, refl}
 use Rattle.std.proofs.lemmas.List.{get_or_read}
-use Rattle.weight_classes.proofs.Winning.{gives_way_at, stays_at, less_from_test, not_less_from_test}
+use Rattle.weight_classes.proofs.Winning.{gives_way_at, less_from_test}
 use Rattle.weight_classes.proofs.choice.consider.Goals as goal
 
 pub returns-then-eq-clause-considered : goal.returns-then-eq-clause-considered

@@ -1,7 +1,7 @@
 use Rattle.std.proofs.Common.{◌≡◌, ◌∙◌, sym, ap, subst, arith, rules, take, Contains, List, ℕ, map, length, is_ok, true, ◌+◌}
 use Rattle.std.proofs.lemmas.List.{take_all, length-map, length-take-le}
 use Rattle.std.proofs.lemmas.List.Sorted.{IsNonDecreasingBy-from_sort_by_key}
-use Rattle.weight_classes.specs.Choice.{key_of, HasEnds}
+use Rattle.weight_classes.specs.Choice.{key_of}
 use Rattle.weight_classes.proofs.Winning.{keys_of_ids, filled_more, ends_more}
 use Rattle.weight_classes.proofs.choice.fill.Goals as goal
 

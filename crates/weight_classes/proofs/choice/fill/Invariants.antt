@@ -1,4 +1,4 @@
-use Rattle.std.proofs.Common.{◌≡◌, ◌<◌, ◌≤◌, ℕ, take, map, length, vec_len, vec_capacity, Contains}
+use Rattle.std.proofs.Common.{◌≡◌, ◌≤◌, ℕ, take, map, length, vec_len, vec_capacity, Contains}
 use Rattle.weight_classes.specs.Choice.{key_of, HasEnds}
 use Rattle.weight_classes.proofs.choice.fill.Given as goal
 

@@ -1,6 +1,6 @@
-use Rattle.std.proofs.Common.{◌≡◌, ◌∙◌, sym, ap, ◌+◌, ◌*◌, ℕ}
+use Rattle.std.proofs.Common.{◌∙◌, sym, ap, ◌+◌, ◌*◌, ℕ}
 use Rattle.weight_classes.specs.declared.choice.Key.{Key}
-use Rattle.weight_classes.specs.Classes.{first_of, last_of}
+use Rattle.weight_classes.specs.Classes.{first_of}
 use Rattle.weight_classes.proofs.Rows.{key_is, ends_of_live}
 use Rattle.weight_classes.proofs.choice.make_key.Goals as goal
 

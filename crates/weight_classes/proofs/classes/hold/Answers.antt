@@ -1,5 +1,5 @@
-use Rattle.std.proofs.Common.{◌≡◌, ◌∙◌, sym, ap, subst}
-use Rattle.weight_classes.specs.Inside.{AreRoomy, IsHeldMore, held_in}
+use Rattle.std.proofs.Common.{◌∙◌, sym, ap}
+use Rattle.weight_classes.specs.Inside.{held_in}
 use Rattle.weight_classes.proofs.Held.{more_at, held_in_same, roomy_more, roomy_set, roomy_found, on_ok, on_err}
 use Rattle.weight_classes.proofs.classes.hold.Goals as goal
 

@@ -1,5 +1,4 @@
-use Rattle.std.proofs.Common.{◌≡◌, ◌∙◌, sym, ap, subst, [], ◌∷◌, ◌++◌}
-use Rattle.weight_classes.specs.Inside.{AreRoomy, IsHeldMore, held_in}
+use Rattle.std.proofs.Common.{◌∙◌, ap, [], ◌∷◌, ◌++◌}
 use Rattle.weight_classes.proofs.Held.{more_new, roomy_more, roomy_insert, from_ok, from_err}
 use Rattle.weight_classes.proofs.classes.hold_first.Goals as goal
 

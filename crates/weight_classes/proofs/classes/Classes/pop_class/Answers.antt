@@ -1,4 +1,4 @@
-use Rattle.std.proofs.Common.{◌≡◌, ◌∙◌, sym, ap, subst, arith, vec_capacity, Contains, List, ℕ}
+use Rattle.std.proofs.Common.{subst, arith, vec_capacity, Contains, List, ℕ}
 use Rattle.weight_classes.specs.Inside.{AreRoomy}
 use Rattle.weight_classes.specs.Choice.{HasEnds}
 use Rattle.weight_classes.proofs.Held.{roomy_more}
