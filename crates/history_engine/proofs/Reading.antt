@@ -20,7 +20,7 @@ use Rattle.path_arena.proofs.Paths.{live_from, path_of_at}
 use Rattle.path_book.specs.Book.{Book, IsBook, IsOpening, IsLeastKept, KeepsNone, kept_path, kept_paths}
 use Rattle.path_book.proofs.Kept.{kept_at, kept_live, historical_marked, birth_live, live_is_kept, kept_once}
 use Rattle.history_engine.specs.declared.engine.Counts.{Counts}
-use Rattle.history_engine.specs.Seen.{Seen, IsSame}
+use Rattle.history_engine.specs.Seen.{Seen, paths_of, IsSame}
 use Rattle.history_engine.specs.Lawful.{AreLawful}
 use Rattle.history_engine.specs.Advance.{Stands}
 use Rattle.history_engine.specs.Answers.{AreCounts, numbers}
@@ -81,14 +81,14 @@ module _ (b : Book) (n : ℕ) (lawful : IsBook b) (opened : IsOpening b n) where
   })
 
   -- so a new engine stands for no commands
-  pub new_stands : (e : Seen) → e.opening ≡ n → e.graph ≡ no_edges n → e.vertices ≡ [] → e.steps ≡ 0 → e.formed ≡ 0 → e.removed ≡ 0 → e.spent ≡ false → e.paths ≡ kept_paths b → Stands e []
-  new_stands e count graph vertices steps formed removed spent paths = record {
+  pub new_stands : (e : Seen) → e.opening ≡ n → e.graph ≡ no_edges n → e.vertices ≡ [] → e.steps ≡ 0 → e.formed ≡ 0 → e.removed ≡ 0 → e.spent ≡ false → e.book ≡ b → Stands e []
+  new_stands e count graph vertices steps formed removed spent book = record {
     outline = record { graph = graph ∙ ap no_edges (sym count); vertices = vertices; steps = steps; turnover = (formed, removed) };
     not_spent = spent;
     book = record {
-      weights = λ k c. opening_weights e.graph k (subst (λ (ps : List KeptPath). Contains ps k) paths c);
-      once = subst IsOncePerList (sym paths) (kept_once b lawful);
-      says = subst (λ (ps : List KeptPath). IsSame (moment_in e.steps ps) (opening e.opening)) (sym paths)
+      weights = λ k c. opening_weights e.graph k (subst (λ (ps : List KeptPath). Contains ps k) (ap kept_paths book) c);
+      once = subst IsOncePerList (sym (ap kept_paths book)) (kept_once b lawful);
+      says = subst (λ (ps : List KeptPath). IsSame (moment_in e.steps ps) (opening e.opening)) (sym (ap kept_paths book))
           (subst (λ k. IsSame (moment_in k (kept_paths b)) (opening e.opening)) (sym steps) (subst (λ m. IsSame (moment_in 0 (kept_paths b)) (opening m)) (sym count) opening_says));
     };
   }
@@ -139,13 +139,13 @@ module _ (b : Book) (g : Graph) (k : ℕ) (lawful : AreLawful g k (kept_paths b)
 
 -- ---- counts
 
-pub counts_seen : (b : Book) (e : Seen) (c : Counts) → e.paths ≡ kept_paths b → c.updates ≡ length e.vertices → c.steps ≡ e.steps → c.formed ≡ e.formed → c.removed ≡ e.removed
+pub counts_seen : (b : Book) (e : Seen) (c : Counts) → e.book ≡ b → c.updates ≡ length e.vertices → c.steps ≡ e.steps → c.formed ≡ e.formed → c.removed ≡ e.removed
     → CountIs (λ p. IsKeptIn (kept_paths b) p × IsWithEdge p) c.paths → CountIs (λ p. IsHistoricalIn (kept_paths b) p × IsWithEdge p) c.historical → AreCounts e c
 counts_seen b e c is updates steps formed removed paths historical = record {
   updates = updates;
   steps = steps;
-  paths = let F : List KeptPath → Type 0 = λ ps. CountIs (λ p. IsKeptIn ps p × IsWithEdge p) c.paths in subst F (sym is) paths;
-  historical = let F : List KeptPath → Type 0 = λ ps. CountIs (λ p. IsKeptIn ps p × IsWithEdge p × IsHistoricalIn ps p) c.historical in subst F (sym is) (count_same (λ p. IsHistoricalIn (kept_paths b) p × IsWithEdge p) (λ p. IsKeptIn (kept_paths b) p × IsWithEdge p × IsHistoricalIn (kept_paths b) p) c.historical
+  paths = let F : List KeptPath → Type 0 = λ ps. CountIs (λ p. IsKeptIn ps p × IsWithEdge p) c.paths in subst F (sym (ap kept_paths is)) paths;
+  historical = let F : List KeptPath → Type 0 = λ ps. CountIs (λ p. IsKeptIn ps p × IsWithEdge p × IsHistoricalIn ps p) c.historical in subst F (sym (ap kept_paths is)) (count_same (λ p. IsHistoricalIn (kept_paths b) p × IsWithEdge p) (λ p. IsKeptIn (kept_paths b) p × IsWithEdge p × IsHistoricalIn (kept_paths b) p) c.historical
       (λ p. (λ h. ((h.0.0, h.0.1, h.0.2), h.1, h.0), λ h. (h.2, h.1))) historical);
   formed = formed;
   removed = removed;
@@ -158,21 +158,21 @@ counts_of e c counts commands s =
     record {
       updates = counts.updates ∙ ap length s.outline.vertices;
       steps = counts.steps ∙ s.outline.steps;
-      paths = count_same (λ p. IsKeptIn e.paths p × IsWithEdge p) (λ p. m.kept p × IsWithEdge p) c.paths (λ p. (λ h. ((s.book.says.kept p).0 h.0, h.1), λ h. ((s.book.says.kept p).1 h.0, h.1))) counts.paths;
-      historical = count_same (λ p. IsKeptIn e.paths p × IsWithEdge p × IsHistoricalIn e.paths p) (λ p. m.kept p × IsWithEdge p × m.historical p) c.historical
+      paths = count_same (λ p. IsKeptIn (paths_of e) p × IsWithEdge p) (λ p. m.kept p × IsWithEdge p) c.paths (λ p. (λ h. ((s.book.says.kept p).0 h.0, h.1), λ h. ((s.book.says.kept p).1 h.0, h.1))) counts.paths;
+      historical = count_same (λ p. IsKeptIn (paths_of e) p × IsWithEdge p × IsHistoricalIn (paths_of e) p) (λ p. m.kept p × IsWithEdge p × m.historical p) c.historical
           (λ p. (λ h. ((s.book.says.kept p).0 h.0, h.1, (s.book.says.historical p).0 h.2), λ h. ((s.book.says.kept p).1 h.0, h.1, (s.book.says.historical p).1 h.2))) counts.historical;
       turnover = subst (λ f. LatestTurnoverIs e.opening e.smooth commands f c.removed) (sym counts.formed) (subst (LatestTurnoverIs e.opening e.smooth commands e.formed) (sym counts.removed) s.outline.turnover);
     }
 
 -- ---- births
 
-pub birth_for : (e : Seen) (list : List ℕ) (o : Option ℕ) → MatchOption o (IsKeptIn e.paths list → ⊥) (HasBirthIn e.paths list) → (commands : List Command) → Stands e commands → MatchOption o (IsKept e.opening e.smooth commands list → ⊥) (HasBirth e.opening e.smooth commands list)
+pub birth_for : (e : Seen) (list : List ℕ) (o : Option ℕ) → MatchOption o (IsKeptIn (paths_of e) list → ⊥) (HasBirthIn (paths_of e) list) → (commands : List Command) → Stands e commands → MatchOption o (IsKept e.opening e.smooth commands list → ⊥) (HasBirth e.opening e.smooth commands list)
 birth_for e list None none commands s = λ kept. none ((s.book.says.kept list).1 kept)
 birth_for e list (Some b) birth commands s = (s.book.says.birth list b).0 birth
 
 -- ---- what `least` answers
 
-pub path_is : (e : Seen) (b : Book) (g : Graph) (k : ℕ) → g ≡ e.graph → kept_paths b ≡ e.paths → AreLawful g k (kept_paths b) → (x y id : ℕ) → IsLeastKept b x y id → IsBook b → (l : LeastPath) → l.book ≡ b → l.id ≡ id → IsLeastPath e x y l
+pub path_is : (e : Seen) (b : Book) (g : Graph) (k : ℕ) → g ≡ e.graph → b ≡ e.book → AreLawful g k (kept_paths b) → (x y id : ℕ) → IsLeastKept b x y id → IsBook b → (l : LeastPath) → l.book ≡ b → l.id ≡ id → IsLeastPath e x y l
 path_is e b g k graph paths lawful x y id least book l book_is id_is = subst (IsLeastPath e x y) (λ i. record { book = sym book_is i; id = sym id_is i }) (record {
   book = paths;
   lawful = book;

@@ -12,7 +12,7 @@ use Rattle.apsp_model.specs.Counts.{RemovedIs, PathsAre}
 use Rattle.apsp_model.specs.Paths.{KeptPath, IsOncePerList, moment_in}
 use Rattle.fixup_math.proofs.Births.{IsBook}
 use Rattle.fixup_math.proofs.Counting.{in_cons, in_nil, head_in, tail_in, count_same}
-use Rattle.history_engine.specs.Seen.{Seen, moment_seen, IsSame}
+use Rattle.history_engine.specs.Seen.{Seen, moment_seen, paths_of, IsSame}
 use Rattle.history_engine.specs.Advance.{AdvanceByStar, steps_of_star}
 use Rattle.history_engine.specs.Lawful.{IsLawful}
 use Rattle.history_engine.specs.Stepping.{IsStepDone, IsUnderWay}
@@ -105,7 +105,7 @@ paths_are k ks once = record {
 -- ---- one step, and steps behind each other
 
 -- the update's own step
-pub first_step : (e : Seen) (s : Star) (g : Graph) (formed removed : ℕ) (paths : List KeptPath) → g ≡ star_of e.graph s → IsStepDone s.vertex g e.steps e.paths paths formed removed → IsUnderWay e s g (if e.smooth then cleaned (e.vertices ++ s.vertex ∷ []) else []) (e.steps + 1) formed removed paths
+pub first_step : (e : Seen) (s : Star) (g : Graph) (formed removed : ℕ) (paths : List KeptPath) → g ≡ star_of e.graph s → IsStepDone s.vertex g e.steps (paths_of e) paths formed removed → IsUnderWay e s g (if e.smooth then cleaned (e.vertices ++ s.vertex ∷ []) else []) (e.steps + 1) formed removed paths
 first_step e s g formed removed paths is done = record {
   made = Star_step s.vertex g ∷ [];
   rest = ap (λ h. with_cleaning (if e.smooth then cleaned (e.vertices ++ s.vertex ∷ []) else []) h (Star_step s.vertex h ∷ [])) is;
@@ -132,25 +132,26 @@ cleaning_step e s g v left steps formed removed paths more_formed more_removed a
   lawful = done.lawful;
 }
 
--- what is seen once no vertex is left
-pub update_done : (e : Seen) (s : Star) (g : Graph) (steps formed removed : ℕ) (paths : List KeptPath) → IsOncePerList e.paths → g ≡ star_of e.graph s → IsUnderWay e s g [] steps formed removed paths → AdvanceByStar e s (record { opening = e.opening; graph = g; smooth = e.smooth; vertices = e.vertices ++ s.vertex ∷ []; steps = steps; formed = formed; removed = removed; spent = false; paths = paths })
-update_done e s g steps formed removed paths once is w = record {
-  opening = refl;
-  smooth = refl;
-  graph = is;
-  vertices = refl;
+-- the whole update, once no vertex is left to be cleaned
+pub update_done : (e : Seen) (s : Star) (after : Seen) → IsOncePerList (paths_of e) → after.opening ≡ e.opening → after.smooth ≡ e.smooth → after.graph ≡ star_of e.graph s → after.vertices ≡ e.vertices ++ s.vertex ∷ [] → after.spent ≡ false
+    → IsUnderWay e s after.graph [] after.steps after.formed after.removed (paths_of after) → AdvanceByStar e s after
+update_done e s after once opening smooth graph vertices spent w = record {
+  opening = opening;
+  smooth = smooth;
+  graph = graph;
+  vertices = vertices;
   steps = w.steps_is ∙ ap (λ made. e.steps + length made) w.rest;
   turnover = record {
-    before = length (edge_lists e.paths);
-    after = length (edge_lists paths);
-    paths_before = paths_are e.steps e.paths once;
-    paths_after = count_same (λ p. (moment_in steps paths).kept p × IsWithEdge p) (λ p. (after_steps (moment_seen e) (steps_of_star e s)).kept p × IsWithEdge p) (length (edge_lists paths)) (λ p. (λ h. ((says.kept p).0 h.0, h.1), λ h. ((says.kept p).1 h.0, h.1))) (paths_are steps paths w.lawful.once);
-    removed_is = subst (λ (made : List Step). RemovedIs (moment_seen e) made removed) w.rest w.removed_is;
-    formed_is = w.formed_is (length (edge_lists paths)) (length (edge_lists e.paths)) (paths_are e.steps e.paths once) (paths_are steps paths w.lawful.once);
+    before = length (edge_lists (paths_of e));
+    after = length (edge_lists (paths_of after));
+    paths_before = paths_are e.steps (paths_of e) once;
+    paths_after = count_same (λ p. (moment_seen after).kept p × IsWithEdge p) (λ p. (after_steps (moment_seen e) (steps_of_star e s)).kept p × IsWithEdge p) (length (edge_lists (paths_of after))) (λ p. (λ h. ((says.kept p).0 h.0, h.1), λ h. ((says.kept p).1 h.0, h.1))) (paths_are after.steps (paths_of after) w.lawful.once);
+    removed_is = subst (λ (made : List Step). RemovedIs (moment_seen e) made after.removed) w.rest w.removed_is;
+    formed_is = w.formed_is (length (edge_lists (paths_of after))) (length (edge_lists (paths_of e))) (paths_are e.steps (paths_of e) once) (paths_are after.steps (paths_of after) w.lawful.once);
   };
   book = record { weights = w.lawful.weights; once = w.lawful.once; says = says };
-  not_spent = refl;
+  not_spent = spent;
 }
   where
-    says : IsSame (moment_in steps paths) (after_steps (moment_seen e) (steps_of_star e s))
-    says = subst (λ (made : List Step). IsSame (moment_in steps paths) (after_steps (moment_seen e) made)) w.rest w.says
+    says : IsSame (moment_seen after) (after_steps (moment_seen e) (steps_of_star e s))
+    says = subst (λ (made : List Step). IsSame (moment_seen after) (after_steps (moment_seen e) made)) w.rest w.says

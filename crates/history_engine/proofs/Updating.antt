@@ -14,13 +14,12 @@ use Rattle.apsp_model.specs.Settled.{IsCleaned, IsReady, IsSettled}
 use Rattle.apsp_model.proofs.Simples.{contained_or_not}
 use Rattle.apsp_model.proofs.Stars.{weight-star_of, weight-star_at, same_graph}
 use Rattle.fixup_math.proofs.Counting.{count_same, count_unique, count_either, count_decides, count_without}
-use Rattle.history_engine.specs.Seen.{Seen}
+use Rattle.history_engine.specs.Seen.{Seen, paths_of}
 use Rattle.history_engine.specs.Lawful.{AreLawful, IsStepReady}
 use Rattle.history_engine.specs.Stepping.{IsStepDone, IsUnderWay, IsBegun}
 use Rattle.history_engine.specs.Times.{left_from}
 use Rattle.history_engine.proofs.Cleaning.{left_start, left_step, left_end}
-use Rattle.history_engine.specs.Advance.{AdvanceByStar}
-use Rattle.history_engine.proofs.Stepping.{to_book, first_step, update_done}
+use Rattle.history_engine.proofs.Stepping.{to_book, first_step}
 use Rattle.history_engine.proofs.Steps.{ready, step_done}
 
 -- ---- one step
@@ -124,7 +123,7 @@ pub begun : (e : Seen) (s : Star) (g : Graph) (cleans : Bool) (vs : List ℕ) (v
 begun e s g cleans vs v k before after formed removed b done =
     let at_vertex : IsStepDone s.vertex g k before after formed removed = subst (λ u. IsStepDone u g k before after formed removed) (sym b.vertex) done in
     let at_steps : IsStepDone s.vertex g e.steps before after formed removed = subst (λ n. IsStepDone s.vertex g n before after formed removed) (sym b.steps) at_vertex in
-    let at_paths : IsStepDone s.vertex g e.steps e.paths after formed removed = subst (λ (ps : List KeptPath). IsStepDone s.vertex g e.steps ps after formed removed) (sym b.paths) at_steps in
+    let at_paths : IsStepDone s.vertex g e.steps (paths_of e) after formed removed = subst (λ (ps : List KeptPath). IsStepDone s.vertex g e.steps ps after formed removed) (sym b.paths) at_steps in
     let first = first_step e s g formed removed after b.graph at_paths in
     let left : (if e.smooth then cleaned (e.vertices ++ s.vertex ∷ []) else []) ≡ (if cleans then cleaned (vs ++ v ∷ []) else []) = (λ i. if b.smooth i then cleaned (b.vertices i ++ b.vertex i ∷ []) else []) in
     subst (λ n. IsUnderWay e s g (if cleans then cleaned (vs ++ v ∷ []) else []) (n + 1) formed removed after) b.steps
@@ -173,19 +172,3 @@ cleaning_more g vs k f r before i steps formed removed paths more_steps more_for
 pub if_ok : {A E : Type 0} (P Q : A → Type 0) → ((a : A) → P a → Q a) → (r : Result A E) → IfOk r P → IfOk r Q
 if_ok P Q on (Ok a) h = on a h
 if_ok P Q on (Err e) h = tt
-
--- the whole update, once no vertex is left to be cleaned
-pub advanced : (e : Seen) (s : Star) (after : Seen) → IsOncePerList e.paths → after.opening ≡ e.opening → after.smooth ≡ e.smooth → after.graph ≡ star_of e.graph s → after.vertices ≡ e.vertices ++ s.vertex ∷ [] → after.spent ≡ false
-    → IsUnderWay e s after.graph [] after.steps after.formed after.removed after.paths → AdvanceByStar e s after
-advanced e s after once opening smooth graph vertices spent w =
-    let a = update_done e s after.graph after.steps after.formed after.removed after.paths once graph w in
-    record {
-      opening = opening;
-      smooth = smooth;
-      graph = graph;
-      vertices = vertices;
-      steps = a.steps;
-      turnover = a.turnover;
-      book = record { weights = a.book.weights; once = a.book.once; says = a.book.says };
-      not_spent = spent;
-    }

@@ -12,9 +12,9 @@ pub record IsChange (before after : Seen) (c : Change) : Type 0 where
   pub formed : c.formed ≡ after.formed
   pub removed : c.removed ≡ after.removed
 
--- an update that memory ran out in leaves the engine spent, and all as it was but for the kept paths
+-- an update that memory ran out in leaves the engine spent, and all as it was but for the book
 abbrev pub IsSpentBy : Seen → Seen → Type 0
-IsSpentBy before after = after ≡ record before { spent = true; paths = after.paths }
+IsSpentBy before after = after ≡ record before { spent = true; book = after.book }
 
 abbrev pub numbers : Counts → Numbers
 numbers c = record { updates = c.updates; steps = c.steps; paths = c.paths; historical = c.historical; formed = c.formed; removed = c.removed }

@@ -15,7 +15,7 @@ seen_of e = record {
   formed = e.progress.formed;
   removed = e.progress.removed;
   spent = e.spent;
-  paths = kept_paths e.book;
+  book = e.book;
 }
 
 -- the parts have one number of vertices, an update makes at most 41 steps, and the paths are lawful until memory ran out

@@ -4,7 +4,7 @@ use Rattle.std.specs.Coded.{Coded, code_by, coded×, coded_ℕ}
 use Rattle.apsp_model.specs.Walk.{weight_of as walk_weight}
 use Rattle.apsp_model.specs.Least.{IsLeast}
 use Rattle.path_arena.specs.Arena.{list_of, weight_of}
-use Rattle.path_book.specs.Book.{Book, book_code, IsBook, IsLeastKept, kept_paths}
+use Rattle.path_book.specs.Book.{Book, book_code, IsBook, IsLeastKept}
 use Rattle.history_engine.specs.Seen.{Seen}
 
 -- the book that it stands in, and its id
@@ -17,7 +17,7 @@ least_code = code_by (Book × ℕ) (coded× book_code coded_ℕ) (λ l. (l.book,
 
 -- the book is the engine's; the id is that of its least kept path of the pair, which is the least walk of the graph, with its weight
 pub record IsLeastPath (e : Seen) (x y : ℕ) (l : LeastPath) : Type 0 where
-  pub book : kept_paths l.book ≡ e.paths
+  pub book : l.book ≡ e.book
   pub lawful : IsBook l.book
   pub first : IsLeastKept l.book x y l.id
   pub walk : IsLeast e.graph x y (list_of l.book.arena l.id)

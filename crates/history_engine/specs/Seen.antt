@@ -4,10 +4,11 @@ use Rattle.std.specs.Coded.{Coded, code_by, coded×, coded_ℕ, coded_bool, code
 use Rattle.apsp_model.specs.Graph.{Graph, graph_code}
 use Rattle.apsp_model.specs.Walk.{weight_of}
 use Rattle.apsp_model.specs.Kept.{Moment}
+use Rattle.path_book.specs.Book.{Book, book_code, kept_paths}
 use Rattle.apsp_model.specs.Paths.{KeptPath, IsOncePerList, moment_in}
 
 -- the opening number of vertices; the graph; whether smoothing is on; the vertex of each update; the number of steps;
--- what the latest update formed and removed; whether the engine is spent; and the kept paths
+-- what the latest update formed and removed; whether the engine is spent; and the book that it holds
 pub record Seen : Type 0 where
   pub opening : ℕ
   pub graph : Graph
@@ -17,23 +18,22 @@ pub record Seen : Type 0 where
   pub formed : ℕ
   pub removed : ℕ
   pub spent : Bool
-  pub paths : List KeptPath
-
-abbrev pub path_code : Coded KeptPath
-path_code =
-    code_by (List ℕ × (ℕ × (Bool × ℕ))) (coded× (coded_list coded_ℕ) (coded× coded_ℕ (coded× coded_bool coded_ℕ)))
-    (λ k. (k.list, (k.weight, (k.historical, k.birth)))) (λ t. record { list = t.0; weight = t.1.0; historical = t.1.1.0; birth = t.1.1.1 }) (λ _. refl)
+  pub book : Book
 
 abbrev pub seen_code : Coded Seen
 seen_code =
-    code_by (ℕ × (Graph × (Bool × (List ℕ × (ℕ × (ℕ × (ℕ × (Bool × List KeptPath)))))))) (coded× coded_ℕ (coded× graph_code (coded× coded_bool (coded× (coded_list coded_ℕ) (coded× coded_ℕ (coded× coded_ℕ (coded× coded_ℕ (coded× coded_bool (coded_list path_code)))))))))
-    (λ e. (e.opening, (e.graph, (e.smooth, (e.vertices, (e.steps, (e.formed, (e.removed, (e.spent, e.paths)))))))))
-    (λ t. record { opening = t.0; graph = t.1.0; smooth = t.1.1.0; vertices = t.1.1.1.0; steps = t.1.1.1.1.0; formed = t.1.1.1.1.1.0; removed = t.1.1.1.1.1.1.0; spent = t.1.1.1.1.1.1.1.0; paths = t.1.1.1.1.1.1.1.1 })
+    code_by (ℕ × (Graph × (Bool × (List ℕ × (ℕ × (ℕ × (ℕ × (Bool × Book)))))))) (coded× coded_ℕ (coded× graph_code (coded× coded_bool (coded× (coded_list coded_ℕ) (coded× coded_ℕ (coded× coded_ℕ (coded× coded_ℕ (coded× coded_bool book_code))))))))
+    (λ e. (e.opening, (e.graph, (e.smooth, (e.vertices, (e.steps, (e.formed, (e.removed, (e.spent, e.book)))))))))
+    (λ t. record { opening = t.0; graph = t.1.0; smooth = t.1.1.0; vertices = t.1.1.1.0; steps = t.1.1.1.1.0; formed = t.1.1.1.1.1.0; removed = t.1.1.1.1.1.1.0; spent = t.1.1.1.1.1.1.1.0; book = t.1.1.1.1.1.1.1.1 })
     (λ _. refl)
+
+-- the kept paths
+abbrev pub paths_of : Seen → List KeptPath
+paths_of e = kept_paths e.book
 
 -- what is seen, as a moment
 abbrev pub moment_seen : Seen → Moment
-moment_seen e = moment_in e.steps e.paths
+moment_seen e = moment_in e.steps (paths_of e)
 
 -- two moments say the same
 pub record IsSame (m n : Moment) : Type 0 where
@@ -44,6 +44,6 @@ pub record IsSame (m n : Moment) : Type 0 where
 
 -- the paths have their weights in the graph, each stands once, and they say what the moment says
 pub record BookIs (e : Seen) (m : Moment) : Type 0 where
-  pub weights : (k : KeptPath) → Contains e.paths k → k.weight ≡ weight_of e.graph k.list
-  pub once : IsOncePerList e.paths
+  pub weights : (k : KeptPath) → Contains (paths_of e) k → k.weight ≡ weight_of e.graph k.list
+  pub once : IsOncePerList (paths_of e)
   pub says : IsSame (moment_seen e) m

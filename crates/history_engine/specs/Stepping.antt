@@ -6,7 +6,7 @@ use Rattle.apsp_model.specs.Command.{Step, with_cleaning}
 use Rattle.apsp_model.specs.Kept.{after_star, after_steps, IsWithEdge}
 use Rattle.apsp_model.specs.Counts.{CountIs, RemovedIs, PathsAre}
 use Rattle.apsp_model.specs.Paths.{KeptPath, moment_in}
-use Rattle.history_engine.specs.Seen.{Seen, moment_seen, IsSame}
+use Rattle.history_engine.specs.Seen.{Seen, moment_seen, paths_of, IsSame}
 use Rattle.history_engine.specs.Lawful.{AreLawful}
 use Rattle.history_engine.specs.Advance.{steps_of_star}
 
@@ -34,4 +34,4 @@ pub record IsBegun (e : Seen) (s : Star) (g : Graph) (cleans : Bool) (vs : List 
   pub vertices : e.vertices ≡ vs
   pub vertex : s.vertex ≡ v
   pub steps : e.steps ≡ k
-  pub paths : e.paths ≡ before
+  pub paths : paths_of e ≡ before

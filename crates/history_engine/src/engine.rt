@@ -7,10 +7,10 @@ ghost use Rattle.apsp_model.specs.Kept.{IsKept, HasBirth};
 ghost use Rattle.apsp_model.specs.Least.{HasNoWalk};
 ghost use Rattle.apsp_model.specs.Paths.{IsKeptIn, HasBirthIn};
 ghost use Rattle.graph_store.specs.Making.{IsVertexCount, IsMakeAnswer};
-ghost use Rattle.path_book.specs.Book.{kept_paths};
 ghost use Rattle.history_engine.specs.Advance.{Advance, Stands};
 ghost use Rattle.history_engine.specs.Answers.{IsChange, IsSpentBy, AreCounts, numbers};
 ghost use Rattle.history_engine.specs.Least.{IsLeastPath};
+ghost use Rattle.history_engine.specs.Seen.{paths_of};
 ghost use Rattle.history_engine.specs.declared.engine.EngineError.TheVariants as error;
 
 use crate::least::Least;
@@ -224,7 +224,7 @@ impl Engine {
     /// The book of the kept paths.
     pub fn book(&self) -> &Book
         requires { self.now.spent ≡ false }
-        ensures { kept_paths result.now ≡ self.now.paths }
+        ensures { result.now ≡ self.now.book }
     {
         &self.book
     }
@@ -262,7 +262,7 @@ impl Engine {
         requires not_spent { self.now.spent ≡ false }
         requires some { 0 < length list.now }
         requires inside { All (λ v. v < self.now.opening) list.now }
-        ensures seen { MatchOption result (IsKeptIn self.now.paths list.now → ⊥) (HasBirthIn self.now.paths list.now) }
+        ensures seen { MatchOption result (IsKeptIn (paths_of self.now) list.now → ⊥) (HasBirthIn (paths_of self.now) list.now) }
         ensures birth { (commands : List Command) → Stands self.now commands → MatchOption result (IsKept self.now.opening self.now.smooth commands list.now → ⊥) (HasBirth self.now.opening self.now.smooth commands list.now) }
     {
         self.book.birth_of(list)

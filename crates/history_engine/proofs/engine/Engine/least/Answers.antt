@@ -18,4 +18,4 @@ returns-in_err-id c =
 pub returns : goal.returns
 returns c =
     let lawful : AreLawful c.self.inside.graph c.self.inside.progress.steps (kept_paths c.self.inside.book) = c.self.invariant.paths (ap (λ (e : Seen). e.spent) c.self.view_is ∙ c.requires.not_spent) in
-    path_is c.args.self.now c.self.inside.book c.self.inside.graph c.self.inside.progress.steps (ap (λ (e : Seen). e.graph) c.self.view_is) (ap (λ (e : Seen). e.paths) c.self.view_is) lawful c.args.x c.args.y c.in_ok-id.id c.in_ok-id.ensures.least c.in_ok-id.ensures.lawful c.new.result c.new.ensures.book c.new.ensures.id
+    path_is c.args.self.now c.self.inside.book c.self.inside.graph c.self.inside.progress.steps (ap (λ (e : Seen). e.graph) c.self.view_is) (ap (λ (e : Seen). e.book) c.self.view_is) lawful c.args.x c.args.y c.in_ok-id.id c.in_ok-id.ensures.least c.in_ok-id.ensures.lawful c.new.result c.new.ensures.book c.new.ensures.id

@@ -4,10 +4,11 @@ use Rattle.apsp_model.specs.Graph.{Graph}
 use Rattle.apsp_model.specs.Paths.{IsOncePerList}
 use Rattle.apsp_model.specs.Star.{star_of}
 use Rattle.path_book.specs.Book.{kept_paths}
-use Rattle.history_engine.specs.Seen.{Seen}
+use Rattle.history_engine.specs.Seen.{Seen, paths_of}
 use Rattle.history_engine.specs.Lawful.{IsStepReady}
 use Rattle.history_engine.specs.Stepping.{IsUnderWay}
-use Rattle.history_engine.proofs.Updating.{star_ready, taken_back, advanced}
+use Rattle.history_engine.proofs.Updating.{star_ready, taken_back}
+use Rattle.history_engine.proofs.Stepping.{update_done}
 use Rattle.history_engine.proofs.engine.Engine.star.Given.{Over}
 use Rattle.history_engine.proofs.engine.Engine.star.Goals as goal
 
@@ -26,7 +27,7 @@ made g c = c.in-Ok.ensures.done c.args.self.now c.args.star.now (record {
   vertices = sym (ap (λ (e : Seen). e.vertices) c.self.view_is);
   vertex = sym c.vertex-v.ensures.vertex;
   steps = sym (ap (λ (e : Seen). e.steps) c.self.view_is);
-  paths = sym (ap (λ (e : Seen). e.paths) c.self.view_is);
+  paths = sym (ap paths_of c.self.view_is);
 })
 
 pub invariant_of-self : goal.invariant_of-self
@@ -46,8 +47,8 @@ invariant_of-self g c =
 
 pub returns-in-Ok-clause-advance : goal.returns-in-Ok-clause-advance
 returns-in-Ok-clause-advance g c =
-    advanced c.args.self.now c.args.star.now _
-    (subst IsOncePerList (ap (λ (e : Seen). e.paths) c.self.view_is) (c.self.invariant.paths c.if-self.false).once)
+    update_done c.args.self.now c.args.star.now _
+    (subst IsOncePerList (ap paths_of c.self.view_is) (c.self.invariant.paths c.if-self.false).once)
     (ap (λ (h : Graph). h.vertices) c.apply.ensures.after ∙ ap (λ (e : Seen). e.opening) c.self.view_is)
     (ap (λ (e : Seen). e.smooth) c.self.view_is)
     (c.apply.ensures.after ∙ ap (λ (e : Seen). star_of e.graph c.args.star.now) c.self.view_is)
@@ -70,5 +71,5 @@ returns-in-Err-clause-memory g c =
       formed = (ap (λ (e : Seen). e.formed) c.self.view_is) i;
       removed = (ap (λ (e : Seen). e.removed) c.self.view_is) i;
       spent = true;
-      paths = kept_paths c.update-made.new.book;
+      book = c.update-made.new.book;
     }
