@@ -1,6 +1,5 @@
 -- What a change of the lists of one id leaves of the lists of all.
-use Rattle.std.specs.Prelude.{◌≡◌, ◌≢◌, ℕ, ◌+◌, ◌-◌, ◌<◌, Bool, true, false, ◌==◌, MatchBool, List, [], ◌∷◌, ◌++◌, length, take, Option, Some, None, refl, IsSome, is_some, unwrap_or, Contains, Result, Ok, Err, OnOk, MatchOption}
-use Rattle.std.specs.Ordering.{nat_cmp}
+use Rattle.std.specs.Prelude.{◌≡◌, ◌≢◌, ℕ, Bool, ◌==◌, List, [], ◌∷◌, ◌++◌, Option, Some, None, refl, IsSome, is_some, unwrap_or, Contains, Result, Ok, Err, OnOk}
 use Rattle.std.specs.FinMap as map
 use Rattle.std.proofs.Common.{sym, ◌∙◌, ap, subst, arith, inl, inr, get_or, set}
 use Rattle.std.proofs.lemmas.Bool.{cases_eq, false≢true}

@@ -1,5 +1,5 @@
 -- Lists that hold each entry once, when an entry is put behind them or taken out.
-use Rattle.std.specs.Prelude.{◌≡◌, ◌≢◌, ℕ, zero, suc, ◌+◌, ◌<◌, ◌⊎◌, ◌==◌, nat_lt, Bool, true, false, if◌then◌else◌, List, [], ◌∷◌, ◌++◌, length, Contains, refl, Some, None, position, Option, option_to_list}
+use Rattle.std.specs.Prelude.{◌≡◌, ◌≢◌, ℕ, zero, suc, ◌<◌, ◌⊎◌, ◌==◌, nat_lt, true, List, [], ◌∷◌, ◌++◌, length, Contains, refl, Some, None, position, Option, option_to_list, Result, Ok, Err, OnOk, OnErr}
 use Rattle.std.specs.List.{swap, swap_remove, position_or_len}
 use Rattle.std.specs.List.Sorted.{IsPermutation}
 use Rattle.std.proofs.Common.{sym, ◌∙◌, ap, subst, arith, inl, inr, get_or}
@@ -9,6 +9,7 @@ use Rattle.std.proofs.lemmas.List.Quantifiers.{position-Some}
 use Rattle.std.proofs.lemmas.List.Edits.{Swapped, swapped_from_swap, length-swap}
 use Rattle.std.proofs.lemmas.List.Elements.{Contains-append_left, Contains-append_right, Contains-push_cases, Contains-get_or}
 use Rattle.std.proofs.lemmas.List.Sorted.{IsPermutation-keeps, IsPermutation-swap_remove, IsPermutation-sym, Contains-permutation}
+use Rattle.smallvec.specs.SmallVec.{SmallVec}
 use Rattle.apsp_model.specs.Walk.{IsOnceEach}
 use Rattle.apsp_model.proofs.Lists.{contains_cons, contains_nil}
 use Rattle.extension_lists.specs.Known.{IsWithout}
@@ -24,9 +25,9 @@ once_push (y ∷ xs) x once absent = (
 )
 
 -- whether the push found room or not
-pub once_push_if : (pushed : Bool) (xs ys : List ℕ) (x : ℕ) → ys ≡ (if pushed then xs ++ x ∷ [] else xs) → IsOnceEach xs → (Contains xs x → ⊥) → IsOnceEach ys
-once_push_if true xs ys x e once absent = subst IsOnceEach (sym e) (once_push xs x once absent)
-once_push_if false xs ys x e once absent = subst IsOnceEach (sym e) once
+pub once_push_if : {A E : Type 0} (pushed : Result A E) (old new : SmallVec ℕ) (x : ℕ) → OnOk pushed (new.items ≡ old.items ++ x ∷ []) → OnErr pushed (new ≡ old) → IsOnceEach old.items → (Contains old.items x → ⊥) → IsOnceEach new.items
+once_push_if (Ok done) old new x more same once absent = subst IsOnceEach (sym more) (once_push old.items x once absent)
+once_push_if (Err full) old new x more same once absent = subst (λ (v : SmallVec ℕ). IsOnceEach v.items) (sym same) once
 
 -- the front of such a list
 pub once_front : (xs ys : List ℕ) (o : Option ℕ) → xs ≡ ys ++ option_to_list o → IsOnceEach xs → IsOnceEach ys

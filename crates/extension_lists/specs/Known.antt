@@ -1,5 +1,5 @@
 -- The lists of the known ids, and what a change leaves of them.
-use Rattle.std.specs.Prelude.{◌≡◌, ◌≢◌, ℕ, ◌↔◌, ◌==◌, Bool, MatchBool, List, [], ◌∷◌, ◌++◌, Option, Some, None, refl, is_some, IsSome, unwrap_or, MatchOption, Contains}
+use Rattle.std.specs.Prelude.{◌≡◌, ◌≢◌, ℕ, ◌↔◌, ◌==◌, Bool, MatchBool, List, [], ◌∷◌, ◌++◌, None, refl, is_some, IsSome, unwrap_or, Contains}
 use Rattle.std.specs.Ordering.{nat_cmp}
 use Rattle.std.specs.Coded.{Coded, code_by, coded×, coded_ℕ, coded_list}
 use Rattle.std.specs.FinMap as map

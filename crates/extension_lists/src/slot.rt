@@ -8,6 +8,7 @@ ghost use Rattle.extension_lists.specs.Slots.{without_last};
 
 use apsp_model::Memory;
 use path_arena::PathId;
+use smallvec::SmallVec;
 use std::alloc::Global;
 use std::marker::Model;
 
@@ -20,15 +21,19 @@ pub(crate) enum Side {
     RightStar,
 }
 
-/// The lists of the id that has the key, if it is known. The vectors stay when it is forgotten,
-/// and serve the next id of the key.
+/// Most lists are short, so up to four ids stand in the list itself. With fewer it would be no
+/// smaller: the vector of a longer list needs that room.
+type List = SmallVec<PathId, 4>;
+
+/// The lists of the id that has the key, if it is known. Their room stays when it is forgotten,
+/// and serves the next id of the key.
 #[derive(Drop)]
 pub(crate) struct Slot {
     known: bool,
-    left: Vec<PathId>,
-    right: Vec<PathId>,
-    left_star: Vec<PathId>,
-    right_star: Vec<PathId>,
+    left: List,
+    right: List,
+    left_star: List,
+    right_star: List,
 }
 
 impl Model for Slot {
@@ -56,14 +61,14 @@ impl Slot {
     {
         Slot {
             known: false,
-            left: Vec::new(alloc),
-            right: Vec::new(alloc),
-            left_star: Vec::new(alloc),
-            right_star: Vec::new(alloc),
+            left: List::new(alloc),
+            right: List::new(alloc),
+            left_star: List::new(alloc),
+            right_star: List::new(alloc),
         }
     }
 
-    /// Four empty lists, in the room that the vectors have.
+    /// Four empty lists, in the room that the lists have.
     pub(crate) fn enter(&mut self)
         ensures { self.new ≡ Some no_sides }
     {
@@ -122,33 +127,33 @@ impl Slot {
         ensures lent { ForSome self.now (λ s. result.now ≡ s.left) }
         ensures once { IsOnceEach result.now }
     {
-        &self.left
+        self.left.as_slice()
     }
 
     pub(crate) fn right(&self) -> &[PathId]
         ensures lent { ForSome self.now (λ s. result.now ≡ s.right) }
         ensures once { IsOnceEach result.now }
     {
-        &self.right
+        self.right.as_slice()
     }
 
     pub(crate) fn left_star(&self) -> &[PathId]
         ensures lent { ForSome self.now (λ s. result.now ≡ s.left_star) }
         ensures once { IsOnceEach result.now }
     {
-        &self.left_star
+        self.left_star.as_slice()
     }
 
     pub(crate) fn right_star(&self) -> &[PathId]
         ensures lent { ForSome self.now (λ s. result.now ≡ s.right_star) }
         ensures once { IsOnceEach result.now }
     {
-        &self.right_star
+        self.right_star.as_slice()
     }
 }
 
 /// Puts an id behind a list in which it does not stand.
-fn put(list: &mut Vec<PathId>, id: PathId) -> Result<(), Memory>
+fn put(list: &mut List, id: PathId) -> Result<(), Memory>
     requires once { IsOnceEach list.old.items }
     requires absent { Contains list.old.items id → ⊥ }
     ensures ok { OnOk result (list.new.items ≡ list.old.items ++ id ∷ []) }
@@ -160,7 +165,7 @@ fn put(list: &mut Vec<PathId>, id: PathId) -> Result<(), Memory>
 }
 
 /// Takes the last entry out of a list, if there is one.
-fn drop_last(list: &mut Vec<PathId>)
+fn drop_last(list: &mut List)
     requires { IsOnceEach list.old.items }
     ensures rest { list.new.items ≡ without_last list.old.items }
     ensures still_once { IsOnceEach list.new.items }
@@ -169,11 +174,11 @@ fn drop_last(list: &mut Vec<PathId>)
 }
 
 /// Takes an id out of a list, if it stands there; the last entry takes its place.
-fn take_out(list: &mut Vec<PathId>, id: PathId)
+fn take_out(list: &mut List, id: PathId)
     requires { IsOnceEach list.old.items }
     ensures { IsWithout id list.old.items list.new.items }
 {
-    if let Some(place) = place_of(list, id) {
+    if let Some(place) = place_of(list.as_slice(), id) {
         list.swap_remove(place);
     }
 }

@@ -20,6 +20,13 @@ impl Model for PathId {
     ghost inverse = { λ key. record { key = key } };
 }
 
+/// Fills a place that no id has.
+impl Default for PathId {
+    fn default() -> PathId {
+        PathId { key: 0 }
+    }
+}
+
 impl PathId {
     /// The id of the record under this key.
     pub(crate) fn new(key: u32) -> PathId

@@ -1,4 +1,4 @@
-use Rattle.std.proofs.Common.{◌∙◌, sym, subst, arith}
+use Rattle.std.proofs.Common.{sym, subst, arith}
 use Rattle.extension_lists.specs.Known.{Known, IsKnown, IsDropped}
 use Rattle.extension_lists.specs.Slots.{known_in}
 use Rattle.extension_lists.proofs.Places.{known_inside, known_in_forgotten}

@@ -1,4 +1,4 @@
-use Rattle.std.proofs.Common.{◌≡◌, ◌∙◌, ap, arith, Some, subst, sym, get_or}
+use Rattle.std.proofs.Common.{◌∙◌, ap, arith, Some, subst, sym}
 use Rattle.extension_lists.specs.Known.{Known, IsKnown, sides_at}
 use Rattle.extension_lists.specs.Slots.{known_in}
 use Rattle.extension_lists.proofs.Places.{known_inside, slot_is}
