@@ -1,9 +1,8 @@
 -- The held ids by weight, when one more is held, and when an arena fits.
-use Rattle.std.specs.Prelude.{◌≡◌, ◌≢◌, ℕ, ◌+◌, ◌<◌, ◌≤◌, ◌⊎◌, true, false, cond, List, [], ◌∷◌, ◌++◌, length, Some, None, Vec, refl, Contains, Result, Ok, Err, OnOk, OnErr, is_ok}
+use Rattle.std.specs.Prelude.{◌≡◌, ◌≢◌, ℕ, ◌+◌, ◌<◌, ◌≤◌, ◌⊎◌, true, false, cond, List, [], ◌∷◌, ◌++◌, length, Some, None, refl, Contains, Result, Ok, Err, OnOk, OnErr, is_ok}
 use Rattle.std.specs.Map.{lookup, set_value}
 use Rattle.std.specs.Ordering.{nat_cmp, is_eq, match_ordering}
 use Rattle.std.specs.BTreeMap.{is_at, insert_entry}
-use Rattle.std.specs.declared.alloc.Global.{Global}
 use Rattle.std.specs.declared.cmp.Ordering.{Ordering}
 use Rattle.std.specs.declared.cmp.Ordering.TheVariants.{Less, Equal, Greater}
 use Rattle.std.proofs.Common.{sym, ◌∙◌, ap, subst, arith, inl, inr}
@@ -11,7 +10,7 @@ use Rattle.std.proofs.lemmas.Bool.{true≢false, false≢true}
 use Rattle.std.proofs.lemmas.Cmp.{ranked}
 use Rattle.std.proofs.lemmas.List.{length_push}
 use Rattle.std.proofs.lemmas.List.Elements.{Contains-append_left, Contains-push, Contains-push_cases}
-use Rattle.path_arena.specs.declared.id.PathId.{PathId}
+use Rattle.smallvec.specs.SmallVec.{SmallVec}
 use Rattle.path_arena.specs.Arena.{Arena, IsLive, weight_of}
 use Rattle.weight_classes.specs.Classes.{Classes, HoldsAt, IsBucket, AreBuckets, AgreeOnHeld, Fits, count_held}
 use Rattle.weight_classes.specs.Inside.{held_in, AreRoomy, IsHeldMore}
@@ -39,7 +38,7 @@ bucket_one a w id live weight = record {
   weight = λ q c. elim (Contains-push_cases [] id q c) [ inl old ↦ absurd (omega (arith, old.1)) | inr same ↦ subst (λ r. weight_of a r ≡ w) same weight ];
 }
 
-in_tail : (e : ℕ × Vec PathId Global) (es fs : List (ℕ × Vec PathId Global)) (key id : ℕ) → IsHeldMore es fs key id → IsHeldMore (e ∷ es) (e ∷ fs) key id
+in_tail : (e : ℕ × SmallVec ℕ) (es fs : List (ℕ × SmallVec ℕ)) (key id : ℕ) → IsHeldMore es fs key id → IsHeldMore (e ∷ es) (e ∷ fs) key id
 in_tail e es fs key id m = record {
   held = λ w q. (
     λ h. elim h [ inl now ↦ inl (inl now) | inr later ↦ elim ((m.held w q).0 later) [ inl old ↦ inl (inr old) | inr new ↦ inr new ] ],
@@ -49,7 +48,7 @@ in_tail e es fs key id m = record {
   buckets = λ a live weight h. (h.0, m.buckets a live weight h.1);
 }
 
-at_head : (k : ℕ) (x : Vec PathId Global) (es : List (ℕ × Vec PathId Global)) (key id : ℕ) (v : Vec PathId Global) → key ≡ k → v.items ≡ x.items ++ id ∷ [] → IsHeldMore ((k, x) ∷ es) ((k, v) ∷ es) key id
+at_head : (k : ℕ) (x : SmallVec ℕ) (es : List (ℕ × SmallVec ℕ)) (key id : ℕ) (v : SmallVec ℕ) → key ≡ k → v.items ≡ x.items ++ id ∷ [] → IsHeldMore ((k, x) ∷ es) ((k, v) ∷ es) key id
 at_head k x es key id v same is = record {
   held = λ w q. (
     λ h. elim h [
@@ -67,22 +66,22 @@ at_head k x es key id v same is = record {
 
 -- ---- one more id in a bucket that is there
 
-pub more_at : (es : List (ℕ × Vec PathId Global)) (key id : ℕ) (x v : Vec PathId Global) → lookup (is_at (nat_cmp key)) es ≡ Some x → v.items ≡ x.items ++ id ∷ [] → IsHeldMore es (set_value (is_at (nat_cmp key)) es v) key id
+pub more_at : (es : List (ℕ × SmallVec ℕ)) (key id : ℕ) (x v : SmallVec ℕ) → lookup (is_at (nat_cmp key)) es ≡ Some x → v.items ≡ x.items ++ id ∷ [] → IsHeldMore es (set_value (is_at (nat_cmp key)) es v) key id
 more_at [] key id x v found is = cc
 more_at (e ∷ es) key id x v found is = elim (key_or_not key e.0) [
   | inl here ↦
       let here_x : Some e.1 ≡ Some x = sym (ap (λ b. cond b (Some e.1) (lookup (is_at (nat_cmp key)) es)) here.0) ∙ found in
       let same : e.1 ≡ x = cc in
-      subst (λ (fs : List (ℕ × Vec PathId Global)). IsHeldMore (e ∷ es) fs key id) (sym (ap (λ b. cond b ((e.0, v) ∷ es) (e ∷ set_value (is_at (nat_cmp key)) es v)) here.0))
-      (at_head e.0 e.1 es key id v here.1 (is ∙ ap (λ (y : Vec PathId Global). y.items ++ id ∷ []) (sym same)))
+      subst (λ (fs : List (ℕ × SmallVec ℕ)). IsHeldMore (e ∷ es) fs key id) (sym (ap (λ b. cond b ((e.0, v) ∷ es) (e ∷ set_value (is_at (nat_cmp key)) es v)) here.0))
+      (at_head e.0 e.1 es key id v here.1 (is ∙ ap (λ (y : SmallVec ℕ). y.items ++ id ∷ []) (sym same)))
   | inr other ↦
-      subst (λ (fs : List (ℕ × Vec PathId Global)). IsHeldMore (e ∷ es) fs key id) (sym (ap (λ b. cond b ((e.0, v) ∷ es) (e ∷ set_value (is_at (nat_cmp key)) es v)) other.0))
+      subst (λ (fs : List (ℕ × SmallVec ℕ)). IsHeldMore (e ∷ es) fs key id) (sym (ap (λ b. cond b ((e.0, v) ∷ es) (e ∷ set_value (is_at (nat_cmp key)) es v)) other.0))
       (in_tail e es (set_value (is_at (nat_cmp key)) es v) key id (more_at es key id x v (sym (ap (λ b. cond b (Some e.1) (lookup (is_at (nat_cmp key)) es)) other.0) ∙ found) is))
 ]
 
 -- ---- a bucket of its own
 
-own_first : (es : List (ℕ × Vec PathId Global)) (key id : ℕ) (v : Vec PathId Global) → v.items ≡ id ∷ [] → IsHeldMore es ((key, v) ∷ es) key id
+own_first : (es : List (ℕ × SmallVec ℕ)) (key id : ℕ) (v : SmallVec ℕ) → v.items ≡ id ∷ [] → IsHeldMore es ((key, v) ∷ es) key id
 own_first es key id v is = record {
   held = λ w q. (
     λ h. elim h [
@@ -98,7 +97,7 @@ own_first es key id v is = record {
   buckets = λ a live weight h. (subst (IsBucket a key) (sym is) (bucket_one a key id live weight), h);
 }
 
-pub more_new : (es : List (ℕ × Vec PathId Global)) (key id : ℕ) (v : Vec PathId Global) → lookup (is_at (nat_cmp key)) es ≡ None → v.items ≡ id ∷ [] → IsHeldMore es (insert_entry nat_cmp es key v) key id
+pub more_new : (es : List (ℕ × SmallVec ℕ)) (key id : ℕ) (v : SmallVec ℕ) → lookup (is_at (nat_cmp key)) es ≡ None → v.items ≡ id ∷ [] → IsHeldMore es (insert_entry nat_cmp es key v) key id
 more_new [] key id v gone is = own_first [] key id v is
 more_new (e ∷ es) key id v gone is = elim (key_or_not key e.0) [
   | inl here ↦ let found : Some e.1 ≡ None = sym (ap (λ b. cond b (Some e.1) (lookup (is_at (nat_cmp key)) es)) here.0) ∙ gone in cc
@@ -106,19 +105,19 @@ more_new (e ∷ es) key id v gone is = elim (key_or_not key e.0) [
 ]
   where
     go : (o : Ordering) → nat_cmp key e.0 ≡ o → is_eq (nat_cmp key e.0) ≡ false → IsHeldMore es (insert_entry nat_cmp es key v) key id → IsHeldMore (e ∷ es) (insert_entry nat_cmp (e ∷ es) key v) key id
-    go Less at apart more = subst (λ (fs : List (ℕ × Vec PathId Global)). IsHeldMore (e ∷ es) fs key id) (sym (ap (λ o. match_ordering o ((key, v) ∷ e ∷ es) ((e.0, v) ∷ es) (e ∷ insert_entry nat_cmp es key v)) at)) (own_first (e ∷ es) key id v is)
+    go Less at apart more = subst (λ (fs : List (ℕ × SmallVec ℕ)). IsHeldMore (e ∷ es) fs key id) (sym (ap (λ o. match_ordering o ((key, v) ∷ e ∷ es) ((e.0, v) ∷ es) (e ∷ insert_entry nat_cmp es key v)) at)) (own_first (e ∷ es) key id v is)
     go Equal at apart more = absurd (true≢false (sym (ap is_eq at) ∙ apart))
-    go Greater at apart more = subst (λ (fs : List (ℕ × Vec PathId Global)). IsHeldMore (e ∷ es) fs key id) (sym (ap (λ o. match_ordering o ((key, v) ∷ e ∷ es) ((e.0, v) ∷ es) (e ∷ insert_entry nat_cmp es key v)) at)) (in_tail e es (insert_entry nat_cmp es key v) key id more)
+    go Greater at apart more = subst (λ (fs : List (ℕ × SmallVec ℕ)). IsHeldMore (e ∷ es) fs key id) (sym (ap (λ o. match_ordering o ((key, v) ∷ e ∷ es) ((e.0, v) ∷ es) (e ∷ insert_entry nat_cmp es key v)) at)) (in_tail e es (insert_entry nat_cmp es key v) key id more)
 
 -- ---- where nothing is added
 
-pub held_in_same : (es : List (ℕ × Vec PathId Global)) (key : ℕ) (x v : Vec PathId Global) → lookup (is_at (nat_cmp key)) es ≡ Some x → v.items ≡ x.items → held_in (set_value (is_at (nat_cmp key)) es v) ≡ held_in es
+pub held_in_same : (es : List (ℕ × SmallVec ℕ)) (key : ℕ) (x v : SmallVec ℕ) → lookup (is_at (nat_cmp key)) es ≡ Some x → v.items ≡ x.items → held_in (set_value (is_at (nat_cmp key)) es v) ≡ held_in es
 held_in_same [] key x v found is = cc
 held_in_same (e ∷ es) key x v found is = elim (key_or_not key e.0) [
   | inl here ↦
       let here_x : Some e.1 ≡ Some x = sym (ap (λ b. cond b (Some e.1) (lookup (is_at (nat_cmp key)) es)) here.0) ∙ found in
       let same : e.1 ≡ x = cc in
-      ap (λ b. held_in (cond b ((e.0, v) ∷ es) (e ∷ set_value (is_at (nat_cmp key)) es v))) here.0 ∙ ap (λ (ids : List ℕ). (e.0, ids) ∷ held_in es) (is ∙ ap (λ (y : Vec PathId Global). y.items) (sym same))
+      ap (λ b. held_in (cond b ((e.0, v) ∷ es) (e ∷ set_value (is_at (nat_cmp key)) es v))) here.0 ∙ ap (λ (ids : List ℕ). (e.0, ids) ∷ held_in es) (is ∙ ap (λ (y : SmallVec ℕ). y.items) (sym same))
   | inr other ↦
       ap (λ b. held_in (cond b ((e.0, v) ∷ es) (e ∷ set_value (is_at (nat_cmp key)) es v))) other.0
       ∙ ap (λ hs. (e.0, e.1.items) ∷ hs) (held_in_same es key x v (sym (ap (λ b. cond b (Some e.1) (lookup (is_at (nat_cmp key)) es)) other.0) ∙ found) is)
@@ -126,18 +125,18 @@ held_in_same (e ∷ es) key x v found is = elim (key_or_not key e.0) [
 
 -- ---- room
 
-pub roomy_more : (es : List (ℕ × Vec PathId Global)) (a b : ℕ) → a ≤ b → AreRoomy a es → AreRoomy b es
+pub roomy_more : (es : List (ℕ × SmallVec ℕ)) (a b : ℕ) → a ≤ b → AreRoomy a es → AreRoomy b es
 roomy_more [] a b upto h = tt
 roomy_more (e ∷ es) a b upto h = (omega (arith, h.0), roomy_more es a b upto h.1)
 
-pub roomy_set : (es : List (ℕ × Vec PathId Global)) (key most : ℕ) (v : Vec PathId Global) → length v.items ≤ most → AreRoomy most es → AreRoomy most (set_value (is_at (nat_cmp key)) es v)
+pub roomy_set : (es : List (ℕ × SmallVec ℕ)) (key most : ℕ) (v : SmallVec ℕ) → length v.items ≤ most → AreRoomy most es → AreRoomy most (set_value (is_at (nat_cmp key)) es v)
 roomy_set [] key most v fits h = tt
 roomy_set (e ∷ es) key most v fits h = elim (key_or_not key e.0) [
   | inl here ↦ subst (λ b. AreRoomy most (cond b ((e.0, v) ∷ es) (e ∷ set_value (is_at (nat_cmp key)) es v))) (sym here.0) (fits, h.1)
   | inr other ↦ subst (λ b. AreRoomy most (cond b ((e.0, v) ∷ es) (e ∷ set_value (is_at (nat_cmp key)) es v))) (sym other.0) (h.0, roomy_set es key most v fits h.1)
 ]
 
-pub roomy_insert : (es : List (ℕ × Vec PathId Global)) (key most : ℕ) (v : Vec PathId Global) → length v.items ≤ most → AreRoomy most es → AreRoomy most (insert_entry nat_cmp es key v)
+pub roomy_insert : (es : List (ℕ × SmallVec ℕ)) (key most : ℕ) (v : SmallVec ℕ) → length v.items ≤ most → AreRoomy most es → AreRoomy most (insert_entry nat_cmp es key v)
 roomy_insert [] key most v fits h = (fits, tt)
 roomy_insert (e ∷ es) key most v fits h = go (nat_cmp key e.0) (roomy_insert es key most v fits h.1)
   where
@@ -173,13 +172,13 @@ held_is_live a (b ∷ bs) w id h held = elim held [
   | inr more ↦ held_is_live a bs w id h.1 more
 ]
 
-pub roomy_found : (es : List (ℕ × Vec PathId Global)) (key most : ℕ) (x : Vec PathId Global) → lookup (is_at (nat_cmp key)) es ≡ Some x → AreRoomy most es → length x.items ≤ most
+pub roomy_found : (es : List (ℕ × SmallVec ℕ)) (key most : ℕ) (x : SmallVec ℕ) → lookup (is_at (nat_cmp key)) es ≡ Some x → AreRoomy most es → length x.items ≤ most
 roomy_found [] key most x found h = cc
 roomy_found (e ∷ es) key most x found h = elim (key_or_not key e.0) [
   | inl here ↦
       let here_x : Some e.1 ≡ Some x = sym (ap (λ b. cond b (Some e.1) (lookup (is_at (nat_cmp key)) es)) here.0) ∙ found in
       let same : e.1 ≡ x = cc in
-      omega (arith, h.0, ap (λ (v : Vec PathId Global). length v.items) same)
+      omega (arith, h.0, ap (λ (v : SmallVec ℕ). length v.items) same)
   | inr other ↦ roomy_found es key most x (sym (ap (λ b. cond b (Some e.1) (lookup (is_at (nat_cmp key)) es)) other.0) ∙ found) h.1
 ]
 

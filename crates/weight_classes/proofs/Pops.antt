@@ -1,6 +1,5 @@
 -- What taking the least weight out leaves of the classes.
-use Rattle.std.specs.Prelude.{◌≡◌, ℕ, suc, ◌+◌, ◌*◌, ◌<◌, ◌↔◌, ◌==◌, true, false, List, [], ◌∷◌, length, map, slice_index, slice_index_or, Vec, refl, Contains}
-use Rattle.std.specs.declared.alloc.Global.{Global}
+use Rattle.std.specs.Prelude.{◌≡◌, ℕ, suc, ◌+◌, ◌*◌, ◌<◌, ◌↔◌, ◌==◌, true, false, List, [], ◌∷◌, length, map, slice_index, slice_index_or, refl, Contains}
 use Rattle.std.specs.Ordering.{nat_cmp}
 use Rattle.std.specs.declared.cmp.Ordering.TheVariants.{Less}
 use Rattle.std.proofs.lemmas.Cmp.{ranked}
@@ -8,7 +7,7 @@ use Rattle.std.proofs.Common.{sym, ◌∙◌, ap, subst, arith, inl, inr, get_or
 use Rattle.std.proofs.lemmas.Bool.{cases_lt, false≢true, eqb-true, eq-eqb}
 use Rattle.std.proofs.lemmas.List.{get_or-map, get_or_past, length-map}
 use Rattle.std.proofs.lemmas.List.Elements.{Contains-get_or}
-use Rattle.path_arena.specs.declared.id.PathId.{PathId}
+use Rattle.smallvec.specs.SmallVec.{SmallVec}
 use Rattle.path_arena.specs.Arena.{Arena}
 use Rattle.weight_classes.specs.Classes.{Classes, IsHeld, HoldsAt, Fits, AreBuckets, first_of, last_of, SamePair, IsPopped}
 use Rattle.weight_classes.specs.Inside.{held_in, won_in}
@@ -32,7 +31,7 @@ none_won round rounds earlier k won = let w : (k < length rounds) × (slice_inde
 
 -- ---- the class
 
-module _ (a : Arena) (round weight : ℕ) (ids : Vec PathId Global) (es : List (ℕ × Vec PathId Global)) (rounds marks winners : List ℕ) (last : ℕ)
+module _ (a : Arena) (round weight : ℕ) (ids : SmallVec ℕ) (es : List (ℕ × SmallVec ℕ)) (rounds marks winners : List ℕ) (last : ℕ)
     (buckets : AreBuckets a (held_in ((weight, ids) ∷ es)))
     (above : (w q : ℕ) → HoldsAt (held_in es) w q → weight < w)
     (chosen : IsChosen a round (Contains ids.items) rounds marks winners last)
@@ -91,20 +90,20 @@ module _ (a : Arena) (round weight : ℕ) (ids : Vec PathId Global) (es : List (
 
 -- ---- from the fields
 
-pub above_held : (es : List (ℕ × Vec PathId Global)) (weight w q : ℕ) → ((k d : ℕ) → k < length (map (λ e. e.0) es) → nat_cmp weight (get_or (map (λ e. e.0) es) k d) ≡ Less) → HoldsAt (held_in es) w q → weight < w
+pub above_held : (es : List (ℕ × SmallVec ℕ)) (weight w q : ℕ) → ((k d : ℕ) → k < length (map (λ e. e.0) es) → nat_cmp weight (get_or (map (λ e. e.0) es) k d) ≡ Less) → HoldsAt (held_in es) w q → weight < w
 above_held [] weight w q below held = absurd held
 above_held (e ∷ es) weight w q below held = elim held [
   | inl here ↦ let less : weight < e.0 = ranked weight e.0 Less (sym (below 0 0 (omega arith))) in omega (arith, here.0)
   | inr later ↦ above_held es weight w q (λ k d inside. below (suc k) d (omega arith)) later
 ]
 
-pub popped_at : (h : Classes) (a : Arena) (n round weight : ℕ) (ids : Vec PathId Global) (entries es : List (ℕ × Vec PathId Global)) (rounds marks winners : List ℕ) (last : ℕ) → ◌≡◌ {A = Classes} (record { vertices = n; held = held_in entries; won = won_in round rounds }) h → entries ≡ (weight, ids) ∷ es → Fits h a → ((k d : ℕ) → k < length (map (λ e. e.0) es) → nat_cmp weight (get_or (map (λ e. e.0) es) k d) ≡ Less) → IsChosen a round (Contains ids.items) rounds marks winners last → ((q : ℕ) → Contains ids.items q → HasEnds a q) → length rounds ≡ n * n → IsPopped h (record { vertices = n; held = held_in es; won = won_in round marks }) a weight winners
+pub popped_at : (h : Classes) (a : Arena) (n round weight : ℕ) (ids : SmallVec ℕ) (entries es : List (ℕ × SmallVec ℕ)) (rounds marks winners : List ℕ) (last : ℕ) → ◌≡◌ {A = Classes} (record { vertices = n; held = held_in entries; won = won_in round rounds }) h → entries ≡ (weight, ids) ∷ es → Fits h a → ((k d : ℕ) → k < length (map (λ e. e.0) es) → nat_cmp weight (get_or (map (λ e. e.0) es) k d) ≡ Less) → IsChosen a round (Contains ids.items) rounds marks winners last → ((q : ℕ) → Contains ids.items q → HasEnds a q) → length rounds ≡ n * n → IsPopped h (record { vertices = n; held = held_in es; won = won_in round marks }) a weight winners
 popped_at h a n round weight ids entries es rounds marks winners last is first fits below chosen ends pairs =
     let as_many : a.vertices ≡ n = fits.vertices ∙ sym (ap (λ (m : Classes). m.vertices) is) in
     let held_is : h.held ≡ held_in ((weight, ids) ∷ es) = sym (ap (λ (m : Classes). m.held) is) ∙ ap held_in first in
     let before : ◌≡◌ {A = Classes} (record { vertices = a.vertices; held = held_in ((weight, ids) ∷ es); won = won_in round rounds }) h =
     ap (λ (k : ℕ). let m : Classes = record { vertices = k; held = held_in ((weight, ids) ∷ es); won = won_in round rounds } in m) as_many
-    ∙ ap (λ (fs : List (ℕ × Vec PathId Global)). let m : Classes = record { vertices = n; held = held_in fs; won = won_in round rounds } in m) (sym first)
+    ∙ ap (λ (fs : List (ℕ × SmallVec ℕ)). let m : Classes = record { vertices = n; held = held_in fs; won = won_in round rounds } in m) (sym first)
     ∙ is in
     subst (λ (m : Classes). IsPopped m (record { vertices = n; held = held_in es; won = won_in round marks }) a weight winners) before
     (subst (λ (k : ℕ). IsPopped (record { vertices = a.vertices; held = held_in ((weight, ids) ∷ es); won = won_in round rounds }) (record { vertices = k; held = held_in es; won = won_in round marks }) a weight winners) as_many

@@ -1,15 +1,14 @@
 -- How the fields of classes show what they hold. No public clause cites this module.
-use Rattle.std.specs.Prelude.{◌≡◌, ℕ, ◌+◌, ◌*◌, ◌<◌, ◌≤◌, ◌==◌, Bool, ◌⊎◌, ◌↔◌, ⊤, List, [], ◌∷◌, length, map, Vec, vec_len, vec_capacity, slice_index}
-use Rattle.std.specs.declared.alloc.Global.{Global}
-use Rattle.path_arena.specs.declared.id.PathId.{PathId}
+use Rattle.std.specs.Prelude.{◌≡◌, ℕ, ◌+◌, ◌*◌, ◌<◌, ◌≤◌, ◌==◌, Bool, ◌⊎◌, ◌↔◌, ⊤, List, [], ◌∷◌, length, map, vec_len, vec_capacity, slice_index}
+use Rattle.smallvec.specs.SmallVec.{SmallVec}
 use Rattle.weight_classes.specs.declared.classes.Classes.TheInside.{Inside}
 use Rattle.weight_classes.specs.Classes.{Classes, HoldsAt, AreBuckets, count_held}
 use Rattle.path_arena.specs.Arena.{Arena, IsLive, weight_of}
 
-abbrev pub bucket_of : ℕ × Vec PathId Global → ℕ × List ℕ
+abbrev pub bucket_of : ℕ × SmallVec ℕ → ℕ × List ℕ
 bucket_of e = (e.0, e.1.items)
 
-abbrev pub held_in : List (ℕ × Vec PathId Global) → List (ℕ × List ℕ)
+abbrev pub held_in : List (ℕ × SmallVec ℕ) → List (ℕ × List ℕ)
 held_in es = map bucket_of es
 
 -- for each pair, whether it was won in this round
@@ -20,12 +19,12 @@ abbrev pub view_of : Inside → Classes
 view_of c = record { vertices = c.n; held = held_in c.held.entries; won = won_in c.round c.won.items }
 
 -- no bucket has more ids than this
-abbrev pub AreRoomy : ℕ → List (ℕ × Vec PathId Global) → Type 0
+abbrev pub AreRoomy : ℕ → List (ℕ × SmallVec ℕ) → Type 0
 AreRoomy most [] = ⊤
 AreRoomy most (e ∷ es) = (length e.1.items ≤ most) × AreRoomy most es
 
 -- one id more is held with this weight
-pub record IsHeldMore (old new : List (ℕ × Vec PathId Global)) (weight id : ℕ) : Type 0 where
+pub record IsHeldMore (old new : List (ℕ × SmallVec ℕ)) (weight id : ℕ) : Type 0 where
   pub held : (w q : ℕ) → HoldsAt (held_in new) w q ↔ (HoldsAt (held_in old) w q ⊎ ((w ≡ weight) × (q ≡ id)))
   pub count : count_held (held_in new) ≡ count_held (held_in old) + 1
   pub buckets : (a : Arena) → IsLive a id → weight_of a id ≡ weight → AreBuckets a (held_in old) → AreBuckets a (held_in new)

@@ -2,10 +2,16 @@
 
 ghost use Rattle.std.specs.Prelude.{◌≡◌, ℕ, ◌+◌, ◌*◌, ◌<◌, ◌≤◌, ◌^◌, length, vec_len, vec_capacity, Contains};
 ghost use Rattle.path_arena.specs.Arena.{IsLive};
+ghost use Rattle.smallvec.specs.SmallVec.{small_vec_len, HasRoomFor};
 ghost use Rattle.weight_classes.specs.Choice.{AreKeys, IsChosen, HasEnds, IsConsidered, key_of};
 
 use path_arena::{Arena, PathId};
+use smallvec::SmallVec;
 use std::cmp::Ordering;
+
+/// Most weights have one id, so up to four stand in the list itself. With fewer it would be no
+/// smaller: the vector of a longer list needs that room.
+pub(crate) type Ids = SmallVec<PathId, 4>;
 
 /// An id with the place of its pair, row by row.
 #[derive(Clone, Copy)]
@@ -45,17 +51,19 @@ fn make_key(arena: &Arena, n: u32, id: PathId) -> Key
 /// Puts the winners among the keys into the room that the ids had: of each pair that was not won
 /// the least, by the places of the pairs. Their pairs are won in this round.
 pub(crate) fn choose(
-    mut ids: Vec<PathId>,
+    mut ids: Ids,
     keys: &[Key],
     won: &mut Vec<u32>,
     round: u32,
     arena: &Arena,
-) -> Vec<PathId>
+) -> Ids
     requires keys { AreKeys arena.now ids.items keys.now }
     requires live { (q : ℕ) → Contains ids.items q → IsLive arena.now q }
     requires pairs { vec_len won.old ≡ arena.now.vertices * arena.now.vertices }
     ensures { (last : ℕ) × IsChosen arena.now round (Contains ids.items) won.old.items won.new.items result.items last }
 {
+    // There are no more winners than ids, so they take no memory.
+    prove!(ids.len() <= ids.capacity());
     ids.clear();
     let mut last = won.len();
     'choosing: for &key in keys {
@@ -66,7 +74,7 @@ pub(crate) fn choose(
 
 /// Takes a key into account behind those of lower places, and gives the place of the last winner.
 fn consider(
-    winners: &mut Vec<PathId>,
+    winners: &mut Ids,
     won: &mut Vec<u32>,
     round: u32,
     last: usize,
@@ -76,16 +84,15 @@ fn consider(
     requires inside { key.place < vec_len won.old }
     requires live { IsLive arena.now key.id }
     requires all_live { (q : ℕ) → Contains winners.old.items q → IsLive arena.now q }
-    requires some { last ≡ key.place → 0 < vec_len winners.old }
-    requires room { vec_len winners.old < vec_capacity winners.old }
+    requires some { last ≡ key.place → 0 < small_vec_len winners.old }
+    requires room { HasRoomFor winners.old 1 }
     ensures considered { IsConsidered arena.now round key last winners.old.items won.old.items winners.new.items won.new.items result }
-    ensures capacity { vec_capacity winners.old ≤ vec_capacity winners.new }
-    ensures len { vec_len winners.new ≤ vec_len winners.old + 1 }
+    ensures capacity { winners.new.capacity ≡ winners.old.capacity }
+    ensures len { small_vec_len winners.new ≤ small_vec_len winners.old + 1 }
 {
     if won[key.place] != round {
         won[key.place] = round;
-        // There is room, so it takes none.
-        let _ = winners.push(key.id);
+        winners.push_reserved(key.id);
         return key.place;
     }
     if last == key.place {

@@ -7,7 +7,7 @@ ghost use Rattle.path_arena.specs.Arena.{Arena as Paths, IsLive, weight_of};
 ghost use Rattle.weight_classes.specs.Classes.{Fits, IsHeld, IsPopped, IsPushed, IsWon};
 ghost use Rattle.weight_classes.specs.Inside.{AreRoomy, IsHeldMore, held_in};
 
-use crate::choice::{Key, choose, fill};
+use crate::choice::{Ids, Key, choose, fill};
 use apsp_model::Memory;
 use path_arena::{Arena, PathId};
 use std::alloc::{AllocError, Global};
@@ -18,7 +18,7 @@ use std::marker::Model;
 #[derive(Drop)]
 pub struct Class {
     weight: u64,
-    winners: Vec<PathId>,
+    winners: Ids,
 }
 
 impl Model for Class {
@@ -41,19 +41,19 @@ impl Class {
     pub fn winners(&self) -> &[PathId]
         ensures { result.now ≡ self.now.winners }
     {
-        &self.winners
+        self.winners.as_slice()
     }
 }
 
 /// Ids by weight, and for each pair of vertices whether it is won. Contracts see the held ids with
 /// their weights, and which pairs are won.
 ///
-/// The ids of one weight stand in a vector of their own, whose room is that of their winners.
+/// The ids of one weight stand in a list of their own, whose room is that of their winners.
 #[derive(Drop)]
 pub struct Classes {
     alloc: Global,
     n: u32,
-    held: BTreeMap<u64, Vec<PathId>>,
+    held: BTreeMap<u64, Ids>,
     // The round in which each pair was won last, row by row, and the present round.
     won: Vec<u32>,
     round: u32,
@@ -133,7 +133,7 @@ impl Classes {
         ensures fits { Fits self.new arena.now }
     {
         let (weight, ids) = self.held.pop_first()?;
-        fill(&mut self.keys, arena, self.n, &ids);
+        fill(&mut self.keys, arena, self.n, ids.as_slice());
         let winners = choose(ids, &self.keys, &mut self.won, self.round, arena);
         Some(Class { weight, winners })
     }
@@ -169,7 +169,7 @@ fn forget(won: &mut Vec<u32>)
 
 /// Holds an id with the others of its weight, and makes room for their keys.
 fn hold(
-    held: &mut BTreeMap<u64, Vec<PathId>>,
+    held: &mut BTreeMap<u64, Ids>,
     keys: &mut Vec<Key>,
     alloc: Global,
     weight: u64,
@@ -188,7 +188,7 @@ fn hold(
 
 /// Holds the first id of its weight.
 fn hold_first(
-    held: &mut BTreeMap<u64, Vec<PathId>>,
+    held: &mut BTreeMap<u64, Ids>,
     keys: &mut Vec<Key>,
     alloc: Global,
     weight: u64,
@@ -200,14 +200,14 @@ fn hold_first(
     ensures err { OnErr result (held_in held.new.entries ≡ held_in held.old.entries) }
     ensures roomy { AreRoomy (vec_capacity keys.new) held.new.entries }
 {
-    let mut bucket = Vec::new(alloc);
+    let mut bucket = Ids::new(alloc);
     put(&mut bucket, keys, id)?;
     held.insert(weight, bucket).map_err(|_| Memory)?;
     Ok(())
 }
 
 /// Puts an id behind the others of its weight, and makes room for their keys.
-fn put(bucket: &mut Vec<PathId>, keys: &mut Vec<Key>, id: PathId) -> Result<(), Memory>
+fn put(bucket: &mut Ids, keys: &mut Vec<Key>, id: PathId) -> Result<(), Memory>
     requires { length bucket.old.items ≤ vec_capacity keys.old }
     ensures ok { OnOk result (bucket.new.items ≡ bucket.old.items ++ id ∷ []) }
     ensures err { OnErr result (bucket.new.items ≡ bucket.old.items) }

@@ -15,7 +15,7 @@ consider-last-requires-clause-all_live c = λ q w. c.requires.live q (seen_in_id
 pub consider-last-requires-clause-some : goal.consider-last-requires-clause-some
 consider-last-requires-clause-some c = λ at_last.
     let k = at_index c.args.arena.now c.args.ids.items c.args.keys.now c.requires.keys c.choosing.key-index c.key-item.result c.choosing-test.true c.key-item.is in
-    omega (arith, some_winner c.args.arena.now c.args.round _ _ _ _ _ c.choosing.invariant.0 (λ at_end. omega (arith, at_end, at_last, place_inside c.args.arena.now c.key-item.result.id (c.requires.keys.ends c.key-item.result.id k.0), ap (λ (j : Key). j.place) k.1, c.requires.pairs, c.args.won.now.ok.0)), c.choosing.ids.ok.0)
+    omega (arith, some_winner c.args.arena.now c.args.round _ _ _ _ _ c.choosing.invariant.0 (λ at_end. omega (arith, at_end, at_last, place_inside c.args.arena.now c.key-item.result.id (c.requires.keys.ends c.key-item.result.id k.0), ap (λ (j : Key). j.place) k.1, c.requires.pairs, c.args.won.now.ok.0)))
 
 pub consider-last-requires-clause-room : goal.consider-last-requires-clause-room
 consider-last-requires-clause-room c = omega (arith, c.choosing.invariant.1, c.choosing.invariant.2, c.choosing-test.true)

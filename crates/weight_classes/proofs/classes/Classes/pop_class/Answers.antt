@@ -19,5 +19,5 @@ pub returns-clause-class : goal.returns-clause-class
 returns-clause-class c =
     popped_at c.args.self.now c.args.arena.now c.self.inside.n c.self.inside.round c.in_ok-weight.weight c.in_ok-weight.ids c.self.inside.held.entries c.pop_first.new.self.entries c.self.inside.won.items c.choose-winners.new.won.items c.choose-winners.result.items c.choose-winners.ensures.0
     c.self.view_is c.in_ok-weight.ensures.removal c.requires.fits c.in_ok-weight.ensures.all_above c.choose-winners.ensures.1
-    (subst (λ (xs : List ℕ). (q : ℕ) → Contains xs q → HasEnds c.args.arena.now q) c.deref.ensures.value c.fill.ensures.keys.ends)
+    (subst (λ (xs : List ℕ). (q : ℕ) → Contains xs q → HasEnds c.args.arena.now q) c.as_slice.ensures c.fill.ensures.keys.ends)
     (omega (arith, c.self.invariant.pairs, c.self.inside.won.ok.0))
