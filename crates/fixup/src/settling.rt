@@ -37,8 +37,9 @@ pub struct Settled {
 /// is held only where it is the least kept path of its pair and not historical. After `Memory` the
 /// book is lawful and nothing more is known of it.
 ///
-/// Time: one look at the head of each pair, and then for each promoted path its partners, each with
-/// the logarithm of the paths of a pair.
+/// Time: one look at a flag of each pair, and at the head of those of which a path was formed or
+/// forgotten, and then for each promoted path its partners, each with the logarithm of the paths of a
+/// pair.
 pub fn settle<R: Threads + Sync, G: Gate>(
     _rt: &R,
     alloc: Global,

@@ -48,12 +48,12 @@ fn form_edge(book: &mut Book, graph: &Graph, from: u32, to: u32, birth: u64) -> 
     Ok(())
 }
 
-/// Holds of each pair the least kept path, where it is not historical. Of the other pairs no path is
-/// looked at.
-pub(crate) fn queue_heads(book: &Book, classes: &mut Classes, n: u32) -> Result<(), Memory>
-    requires vertices { book.now.arena.vertices ≡ n }
-    requires start { IsQueueing book.now 0 0 classes.old }
-    ensures queued { OnOk result (IsQueueing book.now n 0 classes.new) }
+/// Holds of each pair the least kept path, where it is not historical.
+pub(crate) fn queue_heads(book: &mut Book, classes: &mut Classes, n: u32) -> Result<(), Memory>
+    requires vertices { book.old.arena.vertices ≡ n }
+    requires start { IsQueueing book.old 0 0 classes.old }
+    ensures same { book.new ≡ book.old }
+    ensures queued { OnOk result (IsQueueing book.old n 0 classes.new) }
 {
     'rows: for x in 0..n {
         queue_row(book, classes, n, x)?;
@@ -61,11 +61,12 @@ pub(crate) fn queue_heads(book: &Book, classes: &mut Classes, n: u32) -> Result<
     Ok(())
 }
 
-fn queue_row(book: &Book, classes: &mut Classes, n: u32, x: u32) -> Result<(), Memory>
-    requires vertices { book.now.arena.vertices ≡ n }
+fn queue_row(book: &mut Book, classes: &mut Classes, n: u32, x: u32) -> Result<(), Memory>
+    requires vertices { book.old.arena.vertices ≡ n }
     requires inside { x < n }
-    requires start { IsQueueing book.now x 0 classes.old }
-    ensures queued { OnOk result (IsQueueing book.now x n classes.new) }
+    requires start { IsQueueing book.old x 0 classes.old }
+    ensures same { book.new ≡ book.old }
+    ensures queued { OnOk result (IsQueueing book.old x n classes.new) }
 {
     'pairs: for y in 0..n {
         queue_head(book, classes, x, y)?;
@@ -73,18 +74,17 @@ fn queue_row(book: &Book, classes: &mut Classes, n: u32, x: u32) -> Result<(), M
     Ok(())
 }
 
-fn queue_head(book: &Book, classes: &mut Classes, x: u32, y: u32) -> Result<(), Memory>
-    requires from { x < book.now.arena.vertices }
-    requires to { y < book.now.arena.vertices }
-    requires fits { Fits classes.old book.now.arena }
-    requires fresh { (w id : ℕ) → IsHeld classes.old w id → HasEnds book.now.arena id x y → ⊥ }
-    ensures held { OnOk result (IsHeadHeld book.now x y classes.old classes.new) }
-    ensures fits { Fits classes.new book.now.arena }
+fn queue_head(book: &mut Book, classes: &mut Classes, x: u32, y: u32) -> Result<(), Memory>
+    requires from { x < book.old.arena.vertices }
+    requires to { y < book.old.arena.vertices }
+    requires fits { Fits classes.old book.old.arena }
+    requires fresh { (w id : ℕ) → IsHeld classes.old w id → HasEnds book.old.arena id x y → ⊥ }
+    ensures same { book.new ≡ book.old }
+    ensures held { OnOk result (IsHeadHeld book.old x y classes.old classes.new) }
+    ensures fits { Fits classes.new book.old.arena }
 {
-    if let Some(id) = book.least(x, y) {
-        if !book.is_historical(id) {
-            classes.push(book.arena(), id)?;
-        }
+    if let Some(id) = book.pending_least(x, y) {
+        classes.push(book.arena(), id)?;
     }
     Ok(())
 }

@@ -14,3 +14,4 @@ pub mod Forms
 pub mod Lookups
 pub mod Opening
 pub mod Changes
+pub mod Calm

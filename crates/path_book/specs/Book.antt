@@ -1,5 +1,5 @@
 -- What contracts see of a book: the kept paths, which of them are historical, and their extensions.
-use Rattle.std.specs.Prelude.{◌≡◌, ℕ, ◌<◌, ◌↔◌, IsTrue, List, map, Some, unwrap_or, refl, Contains}
+use Rattle.std.specs.Prelude.{◌≡◌, ℕ, ◌<◌, ◌⊎◌, ◌↔◌, IsTrue, List, map, Some, unwrap_or, refl, Contains}
 use Rattle.std.specs.Ordering.{nat_cmp}
 use Rattle.std.specs.Coded.{Coded, code_by, coded×, coded_ℕ}
 use Rattle.std.specs.FinMap as paths
@@ -98,6 +98,14 @@ pub record IsLeastKept (b : Book) (x y id : ℕ) : Type 0 where
 
 abbrev pub KeepsNone : Book → ℕ → ℕ → Type 0
 KeepsNone b x y = (q : ℕ) → IsLive b.arena q → HasEnds b.arena q x y → ⊥
+
+-- the least kept path of the pair, which is not historical
+abbrev pub IsPendingLeast : Book → ℕ → ℕ → ℕ → Type 0
+IsPendingLeast b x y id = IsLeastKept b x y id × (IsMarked b id → ⊥)
+
+-- the pair has no kept path, or its least one is historical
+abbrev pub HasNoPendingLeast : Book → ℕ → ℕ → Type 0
+HasNoPendingLeast b x y = KeepsNone b x y ⊎ ((id : ℕ) × IsLeastKept b x y id × IsMarked b id)
 
 -- how many kept paths have an edge, and how many of those are historical
 abbrev pub PathsCount : Book → ℕ → Type 0

@@ -7,7 +7,8 @@ use Rattle.apsp_model.specs.Counts.{CountIs}
 use Rattle.path_arena.specs.Arena.{Arena, HasAnEdge, vertex_of, list_of, left_of}
 use Rattle.pair_heaps.specs.Heaps.{Heaps, held_at, Fits, HasEnds}
 use Rattle.extension_lists.specs.Known.{Known, no_sides, IsKnown, sides_at}
-use Rattle.path_book.specs.Book.{Book, IsBook}
+use Rattle.path_book.specs.Book.{Book, IsBook, HasNoPendingLeast}
+use Rattle.path_book.specs.Flags.{Flags, flag_at}
 use Rattle.path_book.specs.declared.book.Book.TheInside.{Inside}
 
 -- the places of the marks, the first of which is k
@@ -43,8 +44,17 @@ pub record IsStored (b : Book) (held : Heaps) (historical pending : ℕ) : Type 
   pub pending_count : CountIs (IsCounted b false) pending
   pub most : historical + pending ≤ 2 ^ 48
 
+-- of a pair whose flag is down the least kept path, if there is one, is historical
+pub record IsCalm (b : Book) (s : Flags) : Type 0 where
+  pub vertices : b.arena.vertices ≡ s.vertices
+  pub calm : (x y : ℕ) → x < s.vertices → y < s.vertices → flag_at s x y ≡ false → HasNoPendingLeast b x y
+
+pub record IsLaidOut (b : Book) (held : Heaps) (s : Flags) (historical pending : ℕ) : Type 0 where
+  pub stored : IsStored b held historical pending
+  pub stirred : IsCalm b s
+
 abbrev pub IsSound : Inside → Type 0
-IsSound b = IsStored (view_of b) b.heaps b.historical b.pending
+IsSound b = IsLaidOut (view_of b) b.heaps b.stirred b.historical b.pending
 
 -- the path of an id is that of another with v behind it
 abbrev pub IsExtensionTo : Arena → ℕ → ℕ → ℕ → Type 0

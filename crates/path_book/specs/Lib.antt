@@ -1,3 +1,4 @@
 pub mod Book
+pub mod Flags
 pub mod Layout
 pub mod Admitted

@@ -4,10 +4,11 @@ ghost use Rattle.std.specs.Prelude.{◌≡◌, ◌≢◌, ℕ, ◌<◌, ◌≤�
 ghost use Rattle.std.specs.FinSet as set;
 ghost use Rattle.apsp_model.specs.Paths.{IsKeptIn, HasBirthIn};
 ghost use Rattle.path_arena.specs.Arena.{path_at, IsLive, HasAnEdge, edge_path, joined_path, IsPartOfNone, CanJoin};
-ghost use Rattle.path_book.specs.Book.{IsBook, IsMarked, IsOpening, kept_paths, IsNewList, with_kept, with_mark, IsForgotten, IsLeastKept, KeepsNone, PathsCount, HistoricalCount};
+ghost use Rattle.path_book.specs.Book.{IsBook, IsMarked, IsOpening, kept_paths, IsNewList, with_kept, with_mark, IsForgotten, IsLeastKept, KeepsNone, IsPendingLeast, HasNoPendingLeast, PathsCount, HistoricalCount};
 
 use crate::admit::{admit, enter_vertices};
 use crate::marks::{clear, is_marked, make_room};
+use crate::stirred::Stirred;
 use apsp_model::{MOST_VERTICES, Memory};
 use extension_lists::Lists;
 use pair_heaps::Heaps;
@@ -26,6 +27,8 @@ pub struct Book {
     lists: Lists,
     // Whether the path of a key is historical; a key past the end is not.
     marks: Vec<bool>,
+    // The least path of a pair that is not stirred is historical, if there is one.
+    stirred: Stirred,
     // How many paths with an edge are historical, and how many are not yet.
     historical: u64,
     pending: u64,
@@ -57,6 +60,7 @@ impl Book {
     {
         let arena = Arena::new(alloc, n)?;
         let heaps = Heaps::new(alloc, n)?;
+        let stirred = Stirred::new(alloc, n)?;
         let mut lists = Lists::new(alloc);
         let mut marks = Vec::new(alloc);
         enter_vertices(&arena, &mut lists, &mut marks, n)?;
@@ -65,6 +69,7 @@ impl Book {
             heaps,
             lists,
             marks,
+            stirred,
             historical: 0,
             pending: 0,
         })
@@ -87,6 +92,7 @@ impl Book {
         self.heaps.reserve(u, v)?;
         let id = self.arena.edge(u, v, w, birth)?;
         admit(&mut self.arena, &mut self.heaps, &mut self.lists, id)?;
+        self.stirred.stir(u, v);
         self.pending += 1;
         Ok(id)
     }
@@ -105,9 +111,11 @@ impl Book {
         if self.historical + self.pending == MOST_PATHS {
             return Err(Memory);
         }
-        self.heaps.reserve(self.arena.first(l), self.arena.last(r))?;
+        let (from, to) = (self.arena.first(l), self.arena.last(r));
+        self.heaps.reserve(from, to)?;
         let id = self.arena.join(l, r, birth)?;
         admit(&mut self.arena, &mut self.heaps, &mut self.lists, id)?;
+        self.stirred.stir(from, to);
         self.pending += 1;
         Ok(id)
     }
@@ -136,6 +144,7 @@ impl Book {
         ensures forgotten { IsForgotten self.old self.new id }
         ensures lawful { IsBook self.new }
     {
+        self.stirred.stir(self.arena.first(id), self.arena.last(id));
         let (left, right) = (self.arena.left_part(id), self.arena.right_part(id));
         self.heaps.remove(&self.arena, id);
         self.lists.drop_id(id, left, right);
@@ -158,6 +167,38 @@ impl Book {
             Some(self.arena.vertex(x))
         } else {
             self.heaps.least(x, y)
+        }
+    }
+
+    /// The least kept path of the pair, where it is not historical. It looks at the paths only where
+    /// one of the pair was formed or forgotten since it last gave none.
+    pub fn pending_least(&mut self, x: u32, y: u32) -> Option<PathId>
+        requires from { x < self.old.arena.vertices }
+        requires to { y < self.old.arena.vertices }
+        ensures same { self.new ≡ self.old }
+        ensures pending { MatchOption result (HasNoPendingLeast self.old x y) (IsPendingLeast self.old x y) }
+        ensures lawful { IsBook self.new }
+    {
+        if !self.stirred.is_stirred(x, y) {
+            return None;
+        }
+        let pending = self.least_if_pending(x, y);
+        if pending.is_none() {
+            self.stirred.calm(x, y);
+        }
+        pending
+    }
+
+    fn least_if_pending(&self, x: u32, y: u32) -> Option<PathId>
+        requires from { x < self.now.arena.vertices }
+        requires to { y < self.now.arena.vertices }
+        ensures { MatchOption result (HasNoPendingLeast self.now x y) (IsPendingLeast self.now x y) }
+    {
+        let id = self.least(x, y)?;
+        if self.is_historical(id) {
+            None
+        } else {
+            Some(id)
         }
     }
 

@@ -16,7 +16,7 @@ loop-v-init c = record {
 pub loop-v-preserved : goal.loop-v-preserved
 loop-v-preserved c =
     let items = take (length c.args.list.now - 1) (drop 1 c.args.list.now) in
-    let longer = extended (view_of c.self.inside) c.self.invariant.book c.loop-v.id (get_or items c.loop-v.v-index 0) c.in_ok-id.id c.loop-v.invariant.live
+    let longer = extended (view_of c.self.inside) c.self.invariant.stored.book c.loop-v.id (get_or items c.loop-v.v-index 0) c.in_ok-id.id c.loop-v.invariant.live
     (subst (λ (b : Book). IsExtensionTo b.arena c.loop-v.id (get_or items c.loop-v.v-index 0) c.in_ok-id.id) (sym c.self.view_is) c.in_ok-id.ensures.found) in
     record {
       live = longer.0;
@@ -28,12 +28,12 @@ returns-in_err-id-clause-birth c =
     let items = take (length c.args.list.now - 1) (drop 1 c.args.list.now) in
     subst (λ o. MatchOption o (IsKeptIn (kept_paths c.args.self.now) c.args.list.now → ⊥) (HasBirthIn (kept_paths c.args.self.now) c.args.list.now)) (sym c.from_residual.ensures)
     (subst (λ (b : Book). IsKeptIn (kept_paths b) c.args.list.now → ⊥) c.self.view_is
-    (absent (view_of c.self.inside) c.self.invariant.book c.loop-v.id (get_or items c.loop-v.v-index 0) c.loop-v.v-index items c.args.list.now c.loop-v.invariant.live
+    (absent (view_of c.self.inside) c.self.invariant.stored.book c.loop-v.id (get_or items c.loop-v.v-index 0) c.loop-v.v-index items c.args.list.now c.loop-v.invariant.live
     (subst (λ (b : Book). (q : ℕ) → IsExtensionTo b.arena c.loop-v.id (get_or items c.loop-v.v-index 0) q → ⊥) (sym c.self.view_is) c.in_err-id.ensures.none)
     c.loop-v-test.true refl c.loop-v.invariant.list))
 
 pub returns-clause-birth : goal.returns-clause-birth
 returns-clause-birth c =
     subst (λ (b : Book). HasBirthIn (kept_paths b) c.args.list.now c.birth.result) c.self.view_is
-    (birth_found (view_of c.self.inside) c.self.invariant.book c.loop-v.id c.birth.result c.args.list.now c.loop-v.invariant.live
+    (birth_found (view_of c.self.inside) c.self.invariant.stored.book c.loop-v.id c.birth.result c.args.list.now c.loop-v.invariant.live
     (at_the_end _ _ c.args.list.now c.loop-v.v-index c.loop-v-test.false c.loop-v.invariant.list) c.birth.ensures.value)

@@ -1,22 +1,27 @@
 use Rattle.std.proofs.Common.{◌≡◌, ◌≢◌, ◌≤◌, ◌+◌, ◌^◌, sym, ◌∙◌, ap, subst, arith}
 use Rattle.path_arena.specs.Arena.{Arena, CanJoin, joined_path, IsArena}
 use Rattle.path_book.specs.Book.{Book, IsMarked, with_kept, IsNewList, IsBook}
-use Rattle.path_book.specs.Layout.{view_of, IsStored}
+use Rattle.path_book.specs.Layout.{view_of, IsStored, IsCalm}
+use Rattle.path_book.specs.Flags.{Flags}
 use Rattle.path_book.proofs.Formed.{IsNew}
 use Rattle.path_book.proofs.Forms.{stored_reserved, AsksMet, asks_met, IsFormed, is_formed, is_taken_back, on_err, new_join, join_ends}
+use Rattle.path_book.proofs.Calm.{rows_in_flags, calm_formed}
 use Rattle.path_book.proofs.book.Book.form_join.Goals as goal
 
 pub reserve-requires : goal.reserve-requires
 reserve-requires c =
-    let ends = join_ends c.self.inside.arena c.self.inside.heaps c.args.l c.args.r 0 _ _ c.self.invariant.book.arena c.self.invariant.heaps.fits (subst (λ (b : Book). CanJoin b.arena c.args.l c.args.r) (sym c.self.view_is) c.requires.join) c.first.ensures.value c.last.ensures.value in
+    let ends = join_ends c.self.inside.arena c.self.inside.heaps c.args.l c.args.r 0 _ _ c.self.invariant.stored.book.arena c.self.invariant.stored.heaps.fits (subst (λ (b : Book). CanJoin b.arena c.args.l c.args.r) (sym c.self.view_is) c.requires.join) c.first-from.ensures.value c.last-to.ensures.value in
     record { from = ends.from; to = ends.to }
 
 -- after there is room in the heap
 reserved : (c : goal.After-from_residual-in_err-id) → IsStored (view_of c.self.inside) c.reserve.new.self c.self.inside.historical c.self.inside.pending
-reserved c = stored_reserved (view_of c.self.inside) c.self.inside.heaps c.reserve.new.self c.first.result c.last.result _ _ c.self.invariant (c.reserve.ensures.fits c.self.inside.arena).0 c.in_ok-reserve.ensures.ok
+reserved c = stored_reserved (view_of c.self.inside) c.self.inside.heaps c.reserve.new.self c.first-from.result c.last-to.result _ _ c.self.invariant.stored (c.reserve.ensures.fits c.self.inside.arena).0 c.in_ok-reserve.ensures.ok
 
 pub invariant_of-self-in_err-id : goal.invariant_of-self-in_err-id
-invariant_of-self-in_err-id c = subst (λ (a : Arena). IsStored (record { arena = a; marked = (view_of c.self.inside).marked; lists = c.self.inside.lists }) c.reserve.new.self c.self.inside.historical c.self.inside.pending) (sym c.in_err-id.ensures.memory) (reserved c)
+invariant_of-self-in_err-id c = record {
+  stored = subst (λ (a : Arena). IsStored (record { arena = a; marked = (view_of c.self.inside).marked; lists = c.self.inside.lists }) c.reserve.new.self c.self.inside.historical c.self.inside.pending) (sym c.in_err-id.ensures.memory) (reserved c);
+  stirred = subst (λ (a : Arena). IsCalm (record { arena = a; marked = (view_of c.self.inside).marked; lists = c.self.inside.lists }) c.self.inside.stirred) (sym c.in_err-id.ensures.memory) c.self.invariant.stirred;
+}
 
 -- the new path in the old book
 new : (c : goal.After-admit-arg-3-1) → IsNew (view_of c.self.inside) c.in_ok-id.id (joined_path c.self.inside.arena c.args.l c.args.r c.args.birth)
@@ -29,8 +34,8 @@ new c =
 
 asks : (c : goal.After-admit-arg-3-1) → AsksMet (view_of c.self.inside) c.join.new.self c.reserve.new.self c.in_ok-id.id
 asks c =
-    let ends = join_ends c.self.inside.arena c.self.inside.heaps c.args.l c.args.r c.args.birth _ _ c.self.invariant.book.arena c.self.invariant.heaps.fits (subst (λ (b : Book). CanJoin b.arena c.args.l c.args.r) (sym c.self.view_is) c.requires.join) c.first.ensures.value c.last.ensures.value in
-    asks_met (view_of c.self.inside) c.in_ok-id.id _ c.self.inside.heaps c.reserve.new.self c.first.result c.last.result _ _ c.join.new.self c.self.invariant (new c) c.in_ok-id.ensures.added (c.reserve.ensures.fits c.self.inside.arena).0 c.in_ok-reserve.ensures.ok ends.begins ends.finishes
+    let ends = join_ends c.self.inside.arena c.self.inside.heaps c.args.l c.args.r c.args.birth _ _ c.self.invariant.stored.book.arena c.self.invariant.stored.heaps.fits (subst (λ (b : Book). CanJoin b.arena c.args.l c.args.r) (sym c.self.view_is) c.requires.join) c.first-from.ensures.value c.last-to.ensures.value in
+    asks_met (view_of c.self.inside) c.in_ok-id.id _ c.self.inside.heaps c.reserve.new.self c.first-from.result c.last-to.result _ _ c.join.new.self c.self.invariant.stored (new c) c.in_ok-id.ensures.added (c.reserve.ensures.fits c.self.inside.arena).0 c.in_ok-reserve.ensures.ok ends.begins ends.finishes
 
 pub admit-requires : goal.admit-requires
 admit-requires c = (let a = asks c in record { lawful = a.lawful; edge = a.edge; free = a.free; room = a.room; new = a.new; lists = a.lists })
@@ -40,32 +45,59 @@ as_before : (c : goal.After-from_residual-in_err-admit) → ◌≡◌ {A = Book}
 as_before c = is_taken_back (view_of c.self.inside) c.in_ok-id.id _ c.join.new.self c.admit.new.arena c.admit.new.lists c.in_ok-id.ensures.fresh c.in_ok-id.ensures.added c.in_err-admit.ensures.taken_back c.in_err-admit.ensures.lists_kept
 
 pub invariant_of-self-in_err-admit : goal.invariant_of-self-in_err-admit
-invariant_of-self-in_err-admit c =
-    subst (λ (b : Book). IsStored b c.admit.new.heaps c.self.inside.historical c.self.inside.pending) (sym (as_before c))
-    (subst (λ h. IsStored (view_of c.self.inside) h c.self.inside.historical c.self.inside.pending) (sym c.in_err-admit.ensures.heaps_kept)
-    (stored_reserved (view_of c.self.inside) c.self.inside.heaps c.reserve.new.self c.first.result c.last.result _ _ c.self.invariant (c.reserve.ensures.fits c.self.inside.arena).0 c.in_ok-reserve.ensures.ok))
+invariant_of-self-in_err-admit c = record {
+  stored =
+      subst (λ (b : Book). IsStored b c.admit.new.heaps c.self.inside.historical c.self.inside.pending) (sym (as_before c))
+      (subst (λ h. IsStored (view_of c.self.inside) h c.self.inside.historical c.self.inside.pending) (sym c.in_err-admit.ensures.heaps_kept)
+      (stored_reserved (view_of c.self.inside) c.self.inside.heaps c.reserve.new.self c.first-from.result c.last-to.result _ _ c.self.invariant.stored (c.reserve.ensures.fits c.self.inside.arena).0 c.in_ok-reserve.ensures.ok));
+  stirred = subst (λ (b : Book). IsCalm b c.self.inside.stirred) (sym (as_before c)) c.self.invariant.stirred;
+}
 
 pub returns-in_err-admit-clause-lawful : goal.returns-in_err-admit-clause-lawful
-returns-in_err-admit-clause-lawful c = subst IsBook (sym (as_before c)) c.self.invariant.book
+returns-in_err-admit-clause-lawful c = subst IsBook (sym (as_before c)) c.self.invariant.stored.book
 
 pub returns-in_err-admit-clause-memory : goal.returns-in_err-admit-clause-memory
 returns-in_err-admit-clause-memory c = on_err c.from_residual-in_err-admit.result (as_before c ∙ c.self.view_is)
+
+-- .. as it is when all is done
+made : (c : goal.After-self-1) → IsNew (view_of c.self.inside) c.in_ok-id.id (joined_path c.self.inside.arena c.args.l c.args.r c.args.birth)
+made c =
+    new_join (view_of c.self.inside) c.in_ok-id.id c.args.l c.args.r c.args.birth
+    (subst (λ (b : Book). IsMarked b c.args.l) (sym c.self.view_is) c.requires.left)
+    (subst (λ (b : Book). IsMarked b c.args.r) (sym c.self.view_is) c.requires.right)
+    c.in_ok-id.ensures.fresh (subst (λ (b : Book). IsNewList b (joined_path b.arena c.args.l c.args.r c.args.birth).list) (sym c.self.view_is) c.requires.new)
+    (subst IsArena c.in_ok-id.ensures.added c.in_ok-id.ensures.lawful)
 
 -- with memory it is formed
 formed : (c : goal.After-self-1) → IsFormed (view_of c.self.inside) c.admit.new.arena c.admit.new.lists c.admit.new.heaps c.in_ok-id.id (joined_path c.self.inside.arena c.args.l c.args.r c.args.birth) c.self.inside.historical c.self.inside.pending
 formed c =
     is_formed (view_of c.self.inside) c.in_ok-id.id _ c.reserve.new.self c.admit.new.heaps _ _ c.join.new.self c.admit.new.arena c.admit.new.lists
-    (stored_reserved (view_of c.self.inside) c.self.inside.heaps c.reserve.new.self c.first.result c.last.result _ _ c.self.invariant (c.reserve.ensures.fits c.self.inside.arena).0 c.in_ok-reserve.ensures.ok)
-    (new_join (view_of c.self.inside) c.in_ok-id.id c.args.l c.args.r c.args.birth
-    (subst (λ (b : Book). IsMarked b c.args.l) (sym c.self.view_is) c.requires.left)
-    (subst (λ (b : Book). IsMarked b c.args.r) (sym c.self.view_is) c.requires.right)
-    c.in_ok-id.ensures.fresh (subst (λ (b : Book). IsNewList b (joined_path b.arena c.args.l c.args.r c.args.birth).list) (sym c.self.view_is) c.requires.new)
-    (subst IsArena c.in_ok-id.ensures.added c.in_ok-id.ensures.lawful))
+    (stored_reserved (view_of c.self.inside) c.self.inside.heaps c.reserve.new.self c.first-from.result c.last-to.result _ _ c.self.invariant.stored (c.reserve.ensures.fits c.self.inside.arena).0 c.in_ok-reserve.ensures.ok)
+    (made c)
     c.in_ok-id.ensures.added c.in_ok-admit.ensures.kept c.in_ok-admit.ensures.admitted
-    (let most : c.self.inside.historical + c.self.inside.pending ≤ 2 ^ 48 = c.self.invariant.most in let apart : c.self.inside.historical + c.self.inside.pending ≢ 2 ^ 48 = c.if-self-eq-MOST_PATHS.false in omega arith)
+    (let most : c.self.inside.historical + c.self.inside.pending ≤ 2 ^ 48 = c.self.invariant.stored.most in let apart : c.self.inside.historical + c.self.inside.pending ≢ 2 ^ 48 = c.if-self-eq-MOST_PATHS.false in omega arith)
+
+pub stir-requires : goal.stir-requires
+stir-requires c =
+    let ends = join_ends c.self.inside.arena c.self.inside.heaps c.args.l c.args.r 0 _ _ c.self.invariant.stored.book.arena c.self.invariant.stored.heaps.fits (subst (λ (b : Book). CanJoin b.arena c.args.l c.args.r) (sym c.self.view_is) c.requires.join) c.first-from.ensures.value c.last-to.ensures.value in
+    record {
+      from = rows_in_flags (view_of c.self.inside) c.self.inside.heaps c.self.inside.stirred c.first-from.result c.self.invariant.stirred c.self.invariant.stored.heaps.fits ends.from;
+      to = rows_in_flags (view_of c.self.inside) c.self.inside.heaps c.self.inside.stirred c.last-to.result c.self.invariant.stirred c.self.invariant.stored.heaps.fits ends.to;
+    }
 
 pub invariant_of-self-2 : goal.invariant_of-self-2
-invariant_of-self-2 c = (formed c).stored
+invariant_of-self-2 c =
+    let ends = join_ends c.self.inside.arena c.self.inside.heaps c.args.l c.args.r c.args.birth _ _ c.self.invariant.stored.book.arena c.self.invariant.stored.heaps.fits (subst (λ (b : Book). CanJoin b.arena c.args.l c.args.r) (sym c.self.view_is) c.requires.join) c.first-from.ensures.value c.last-to.ensures.value in
+    record {
+      stored = (formed c).stored;
+      stirred =
+          subst (λ (b : Book). IsCalm b c.stir.new.self) (sym (formed c).same)
+          (subst (λ (s : Flags). IsCalm (with_kept (view_of c.self.inside) c.in_ok-id.id (joined_path c.self.inside.arena c.args.l c.args.r c.args.birth)) s) (sym c.stir.ensures)
+          (calm_formed (view_of c.self.inside) c.in_ok-id.id _ c.self.inside.stirred c.first-from.result c.last-to.result c.self.invariant.stored.book (made c) c.self.invariant.stirred
+          (rows_in_flags (view_of c.self.inside) c.self.inside.heaps c.self.inside.stirred c.first-from.result c.self.invariant.stirred c.self.invariant.stored.heaps.fits ends.from)
+          (rows_in_flags (view_of c.self.inside) c.self.inside.heaps c.self.inside.stirred c.last-to.result c.self.invariant.stirred c.self.invariant.stored.heaps.fits ends.to)
+          ends.begins ends.finishes));
+    }
 
 pub returns-clause-formed : goal.returns-clause-formed
 returns-clause-formed c = (formed c).same ∙ ap (λ (b : Book). with_kept b c.in_ok-id.id (joined_path b.arena c.args.l c.args.r c.args.birth)) c.self.view_is

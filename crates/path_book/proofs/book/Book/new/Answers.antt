@@ -1,5 +1,7 @@
+use Rattle.std.proofs.Common.{sym}
 use Rattle.path_book.specs.Layout.{marked_in, IsStored}
 use Rattle.path_book.proofs.Opening.{opened_all}
+use Rattle.path_book.proofs.Calm.{calm_opening}
 use Rattle.path_book.proofs.book.Book.new.Goals as goal
 
 stored : (c : goal.In_ok-enter_vertices) → IsStored (record { arena = c.in_ok-arena.arena; marked = marked_in c.enter_vertices.new.marks.items; lists = c.enter_vertices.new.lists }) c.in_ok-heaps.heaps 0 0
@@ -8,7 +10,12 @@ stored c =
     (c.in_ok-heaps.ensures.fits c.in_ok-arena.arena c.in_ok-arena.ensures.opening.vertices) c.in_ok-heaps.ensures.empty c.in_ok-enter_vertices.ensures
 
 pub invariant_of-result : goal.invariant_of-result
-invariant_of-result c = stored c
+invariant_of-result c = record {
+  stored = stored c;
+  stirred =
+      calm_opening (record { arena = c.in_ok-arena.arena; marked = marked_in c.enter_vertices.new.marks.items; lists = c.enter_vertices.new.lists }) c.args.n c.in_ok-stirred.stirred (stored c).book
+      (record { vertices = c.in_ok-arena.ensures.opening.vertices; live = c.in_ok-arena.ensures.opening.live }) (sym c.in_ok-stirred.ensures.vertices);
+}
 
 pub returns-clause-opening : goal.returns-clause-opening
 returns-clause-opening c = record { vertices = c.in_ok-arena.ensures.opening.vertices; live = c.in_ok-arena.ensures.opening.live }

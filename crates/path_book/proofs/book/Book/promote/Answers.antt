@@ -1,40 +1,41 @@
 use Rattle.std.proofs.Common.{◌≡◌, ◌+◌, ◌-◌, ◌≤◌, slice_set, true, sym, ◌∙◌, ap, subst, arith}
 use Rattle.path_arena.specs.Arena.{IsLive}
 use Rattle.path_book.specs.Book.{Book, IsMarked, with_mark, IsBook}
-use Rattle.path_book.specs.Layout.{view_of, marked_in, IsStored}
+use Rattle.path_book.specs.Layout.{view_of, marked_in, IsStored, IsCalm}
 use Rattle.path_book.proofs.Promoted.{stored_promoted, is_promoted}
 use Rattle.path_book.proofs.Readers.{pending_has_edge}
+use Rattle.path_book.proofs.Calm.{calm_promoted}
 use Rattle.path_book.proofs.book.Book.promote.Goals as goal
 
 pub left_part-left-requires : goal.left_part-left-requires
-left_part-left-requires c = pending_has_edge (view_of c.self.inside) c.args.id c.self.invariant.book (subst (λ (b : Book). IsLive b.arena c.args.id) (sym c.self.view_is) c.requires.live) (subst (λ (b : Book). IsMarked b c.args.id → ⊥) (sym c.self.view_is) c.requires.pending)
+left_part-left-requires c = pending_has_edge (view_of c.self.inside) c.args.id c.self.invariant.stored.book (subst (λ (b : Book). IsLive b.arena c.args.id) (sym c.self.view_is) c.requires.live) (subst (λ (b : Book). IsMarked b c.args.id → ⊥) (sym c.self.view_is) c.requires.pending)
 
 pub add_star-requires-clause-right : goal.add_star-requires-clause-right
-add_star-requires-clause-right c = (c.self.invariant.book.extensions.right _ _).1 c.left_part-left.ensures.value
+add_star-requires-clause-right c = (c.self.invariant.stored.book.extensions.right _ _).1 c.left_part-left.ensures.value
 
 pub add_star-requires-clause-left : goal.add_star-requires-clause-left
-add_star-requires-clause-left c = (c.self.invariant.book.extensions.left _ _).1 c.right_part-right.ensures.value
+add_star-requires-clause-left c = (c.self.invariant.stored.book.extensions.left _ _).1 c.right_part-right.ensures.value
 
 pub add_star-requires-clause-new_right : goal.add_star-requires-clause-new_right
-add_star-requires-clause-new_right c = λ stands. subst (λ (b : Book). IsMarked b c.args.id → ⊥) (sym c.self.view_is) c.requires.pending ((c.self.invariant.book.extensions.right_star _ _).0 stands).1
+add_star-requires-clause-new_right c = λ stands. subst (λ (b : Book). IsMarked b c.args.id → ⊥) (sym c.self.view_is) c.requires.pending ((c.self.invariant.stored.book.extensions.right_star _ _).0 stands).1
 
 pub add_star-requires-clause-new_left : goal.add_star-requires-clause-new_left
-add_star-requires-clause-new_left c = λ stands. subst (λ (b : Book). IsMarked b c.args.id → ⊥) (sym c.self.view_is) c.requires.pending ((c.self.invariant.book.extensions.left_star _ _).0 stands).1
+add_star-requires-clause-new_left c = λ stands. subst (λ (b : Book). IsMarked b c.args.id → ⊥) (sym c.self.view_is) c.requires.pending ((c.self.invariant.stored.book.extensions.left_star _ _).0 stands).1
 
 -- there is a path that is not historical
 stored : (c : goal.After-self-2-1) → (1 ≤ c.self.inside.pending) × IsStored (with_mark (view_of c.self.inside) c.args.id) c.self.inside.heaps (c.self.inside.historical + 1) (c.self.inside.pending - 1)
 stored c =
     let waits = subst (λ (b : Book). IsMarked b c.args.id → ⊥) (sym c.self.view_is) c.requires.pending in
-    stored_promoted (view_of c.self.inside) c.args.id c.self.invariant.book
-    (pending_has_edge (view_of c.self.inside) c.args.id c.self.invariant.book (subst (λ (b : Book). IsLive b.arena c.args.id) (sym c.self.view_is) c.requires.live) waits)
-    waits c.self.inside.heaps _ _ c.self.invariant
+    stored_promoted (view_of c.self.inside) c.args.id c.self.invariant.stored.book
+    (pending_has_edge (view_of c.self.inside) c.args.id c.self.invariant.stored.book (subst (λ (b : Book). IsLive b.arena c.args.id) (sym c.self.view_is) c.requires.live) waits)
+    waits c.self.inside.heaps _ _ c.self.invariant.stored
 
 stored_now : (c : goal.After-self-3-1) → IsStored (with_mark (view_of c.self.inside) c.args.id) c.self.inside.heaps (c.self.inside.historical + 1) (c.self.inside.pending - 1)
 stored_now c =
     let waits = subst (λ (b : Book). IsMarked b c.args.id → ⊥) (sym c.self.view_is) c.requires.pending in
-    (stored_promoted (view_of c.self.inside) c.args.id c.self.invariant.book
-    (pending_has_edge (view_of c.self.inside) c.args.id c.self.invariant.book (subst (λ (b : Book). IsLive b.arena c.args.id) (sym c.self.view_is) c.requires.live) waits)
-    waits c.self.inside.heaps _ _ c.self.invariant).1
+    (stored_promoted (view_of c.self.inside) c.args.id c.self.invariant.stored.book
+    (pending_has_edge (view_of c.self.inside) c.args.id c.self.invariant.stored.book (subst (λ (b : Book). IsLive b.arena c.args.id) (sym c.self.view_is) c.requires.live) waits)
+    waits c.self.inside.heaps _ _ c.self.invariant.stored).1
 
 pub overflow_sub-self : goal.overflow_sub-self
 overflow_sub-self c = (stored c).0
@@ -46,7 +47,10 @@ same c =
     c.in_ok-make_room.ensures.same c.key-2.ensures.value (omega (arith, c.in_ok-make_room.ensures.room, c.key.ensures.value, c.key-2.ensures.value, c.make_room.new.marks.ok)) c.left_part-left.ensures.value c.right_part-right.ensures.value c.in_ok-add_star.ensures.ok
 
 pub invariant_of-self-2 : goal.invariant_of-self-2
-invariant_of-self-2 c = subst (λ (b : Book). IsStored b c.self.inside.heaps (c.self.inside.historical + 1) (c.self.inside.pending - 1)) (sym (same c)) (stored_now c)
+invariant_of-self-2 c = record {
+  stored = subst (λ (b : Book). IsStored b c.self.inside.heaps (c.self.inside.historical + 1) (c.self.inside.pending - 1)) (sym (same c)) (stored_now c);
+  stirred = subst (λ (b : Book). IsCalm b c.self.inside.stirred) (sym (same c)) (calm_promoted (view_of c.self.inside) c.args.id c.self.inside.stirred c.self.invariant.stirred);
+}
 
 pub returns-clause-marked : goal.returns-clause-marked
 returns-clause-marked c = same c ∙ ap (λ (b : Book). with_mark b c.args.id) c.self.view_is
