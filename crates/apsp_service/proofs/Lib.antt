@@ -1,5 +1,6 @@
 pub mod Lines
 pub mod Replied
+pub mod OneText
 pub mod Texts
 pub mod LineReads
 pub mod Given

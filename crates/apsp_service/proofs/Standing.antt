@@ -7,12 +7,19 @@ use Rattle.apsp_model.specs.Star.{Star}
 use Rattle.history_engine.specs.Seen.{Seen}
 use Rattle.history_engine.specs.Advance.{Advance}
 use Rattle.history_engine.proofs.Moments.{law}
+use Rattle.script_reader.specs.Cutter.{Cutting}
 use Rattle.script_reader.specs.Meaning.{line_of}
 use Rattle.script_reader.specs.Refused.{Refusal}
 use Rattle.script_reader.specs.declared.Line.{Line}
 use Rattle.script_reader.specs.declared.Line.TheVariants as line
 use Rattle.apsp_service.specs.Session.{State, context_of, present_graph, star_with, accepted, counted, updated, after_read, after_line}
-use Rattle.apsp_service.specs.Giving.{HasNetwork, IsNetworkOf, IsReady, StandFor, GrowsBy}
+use Rattle.apsp_service.specs.declared.session.Session.{Session}
+use Rattle.apsp_service.specs.Giving.{HasNetwork, IsNetworkOf, IsReady, GrowsBy}
+use Rattle.apsp_service.specs.Standing.{HasState}
+
+-- the state of a session does not hang on the line that is begun
+pub with_line : (session : Session) (cutter : Cutting) (s : State) → HasState session s → HasState (record session { cutter = cutter }) s
+with_line session cutter s h = record { network = h.network; smooth = h.smooth; lines = h.lines; refused = h.refused }
 
 pub ready_of : (seen : Option Seen) (s : State) → HasNetwork seen s → s.lines < 2 ^ 40 → IsReady seen
 ready_of None s h few = tt
@@ -39,10 +46,10 @@ accepted_keeps s (line.Row x) = kept_all s
 accepted_keeps s line.Stats = kept_all s
 accepted_keeps s (line.Age list) = kept_all s
 
-pub line_stands : {E : Type 0} (r : Result (Unit {0}) E) (s : State) (content : List ℕ) (l : Line) (seen : Option Seen) (cleans : Bool) (count : ℕ) (some_refused : Bool) → line_of (context_of s) content ≡ Ok l → OnOk r (HasNetwork seen (accepted (counted s) l)) → cleans ≡ s.smooth → count ≡ s.lines + 1 → some_refused ≡ s.refused → OnOk r (StandFor seen cleans count some_refused (after_line s content))
-line_stands (Err e) s content l seen cleans count some_refused reading h smooth lines refused = tt
-line_stands (Ok u) s content l seen cleans count some_refused reading h smooth lines refused =
-    let F : Result Line Refusal → Type 0 = λ read. StandFor seen cleans count some_refused (after_read s read) in
+pub line_stands : {E : Type 0} (r : Result (Unit {0}) E) (s : State) (content : List ℕ) (l : Line) (session : Session) → line_of (context_of s) content ≡ Ok l → OnOk r (HasNetwork session.network (accepted (counted s) l)) → session.smooth ≡ s.smooth → session.lines ≡ s.lines + 1 → session.refused ≡ s.refused → OnOk r (HasState session (after_line s content))
+line_stands (Err e) s content l session reading h smooth lines refused = tt
+line_stands (Ok u) s content l session reading h smooth lines refused =
+    let F : Result Line Refusal → Type 0 = λ read. HasState session (after_read s read) in
     let k : Keeps (counted s) (accepted (counted s) l) = accepted_keeps (counted s) l in
     subst F (sym reading) (record { network = h; smooth = smooth ∙ sym k.smooth; lines = lines ∙ sym k.lines; refused = refused ∙ sym k.refused })
 

@@ -1,9 +1,8 @@
 -- A piece of input that a session takes, front by front.
-use Rattle.std.proofs.Common.{◌≡◌, ℕ, ◌+◌, ◌<◌, ◌≤◌, List, [], ◌∷◌, ◌++◌, length, take, drop, true, false, Bool, inl, inr, refl, sym, ap, subst, ◌∙◌, arith, append_assoc, append-nil}
+use Rattle.std.proofs.Common.{◌≡◌, ℕ, ◌+◌, ◌<◌, ◌≤◌, List, [], ◌∷◌, ◌++◌, length, take, drop, true, false, inl, inr, refl, sym, ap, subst, ◌∙◌, arith, append_assoc, append-nil}
 use Rattle.std.specs.Prelude.{Option, Result, Ok, Err, OnOk, IsErrAnd, if◌then◌else◌}
 use Rattle.std.proofs.lemmas.Bool.{cases_Bool}
 use Rattle.std.proofs.lemmas.List.{take-append-drop, take_all, length-take, length-append}
-use Rattle.history_engine.specs.Seen.{Seen}
 use Rattle.script_reader.specs.Input.{line_if_some}
 use Rattle.apsp_service.specs.declared.session.Session.{Session}
 use Rattle.apsp_service.specs.declared.stop.Stop.{Stop}
@@ -11,8 +10,8 @@ use Rattle.script_reader.specs.declared.cutter.Cut.{Cut}
 use Rattle.script_reader.specs.Cutter.{line_part, has_newline}
 use Rattle.apsp_service.specs.Begun.{lines_from, rest_from}
 use Rattle.apsp_service.specs.Session.{State, after_line, after_lines}
-use Rattle.apsp_service.specs.Giving.{StandFor, Gave, StopsAmong, GivingEnds}
-use Rattle.apsp_service.specs.Standing.{IsAt, IsAfter, TakesFront, TakesPiece}
+use Rattle.apsp_service.specs.Giving.{Gave, StopsAmong, GivingEnds}
+use Rattle.apsp_service.specs.Standing.{HasState, IsAt, IsAfter, TakesFront, TakesPiece}
 use Rattle.apsp_service.proofs.Lines.{lines_from-append, rest_from-append, lines_from-plain, rest_from-plain, lines_from-whole, rest_from-whole, part_of_all, part_of_whole}
 use Rattle.apsp_service.proofs.Replied.{after_lines-append}
 use Rattle.apsp_service.proofs.Given.{gave_nothing, gave_more, stops_behind, stops_among_more}
@@ -151,6 +150,6 @@ some_line (b ∷ content) some = refl
 pub last_gives : (r : Result (Unit {0}) Stop) (old new : Option (List ℕ)) (before now : ℕ) (s : State) (content : List ℕ) → (content ≡ [] → ⊥) → GivingEnds r old new before now s (content ∷ []) → GivingEnds r old new before now s (line_if_some content)
 last_gives r old new before now s content some h = let F : List (List ℕ) → Type 0 = λ ls. GivingEnds r old new before now s ls in subst F (sym (some_line content some)) h
 
-pub last_refused : (r : Result (Unit {0}) Stop) (network : Option Seen) (smooth : Bool) (lines : ℕ) (refused : Bool) (s : State) (content : List ℕ) → (content ≡ [] → ⊥) → OnOk r (StandFor network smooth lines refused (after_line s content)) → OnOk r (refused ≡ (after_lines s (line_if_some content)).refused)
-last_refused (Err e) network smooth lines refused s content some h = tt
-last_refused (Ok u) network smooth lines refused s content some h = h.refused ∙ ap (λ ls. (after_lines s ls).refused) (sym (some_line content some))
+pub last_stands : (r : Result (Unit {0}) Stop) (session : Session) (s : State) (content : List ℕ) → (content ≡ [] → ⊥) → OnOk r (HasState session (after_line s content)) → OnOk r (HasState session (after_lines s (line_if_some content)))
+last_stands r session s [] some h = absurd (some refl)
+last_stands r session s (b ∷ content) some h = h

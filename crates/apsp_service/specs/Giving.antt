@@ -1,5 +1,5 @@
 -- What a session gives to a sink, and how it stops.
-use Rattle.std.specs.Prelude.{◌≡◌, ℕ, ◌<◌, ◌≤◌, ◌^◌, ⊤, List, [], ◌++◌, length, Bool, false, Option, Some, None, Result, Ok, Err}
+use Rattle.std.specs.Prelude.{◌≡◌, ℕ, ◌<◌, ◌≤◌, ◌^◌, ⊤, List, [], ◌++◌, length, false, Option, Some, None, Result, Ok, Err}
 use Rattle.std.specs.Io.KnownBytes.{Appends}
 use Rattle.apsp_io.specs.Streams.{Rose, GrowsByPrefix}
 use Rattle.history_engine.specs.Seen.{Seen}
@@ -60,13 +60,6 @@ vertices_in (Some e) = e.opening
 abbrev pub IsReady : Option Seen → Type 0
 IsReady None = ⊤
 IsReady (Some e) = (e.spent ≡ false) × (length e.vertices < 2 ^ 40)
-
--- the fields of a session say what the state says
-pub record StandFor (seen : Option Seen) (cleans : Bool) (count : ℕ) (some_refused : Bool) (s : State) : Type 0 where
-  pub network : HasNetwork seen s
-  pub smooth : cleans ≡ s.smooth
-  pub lines : count ≡ s.lines
-  pub refused : some_refused ≡ s.refused
 
 -- a text grows by a reply of this kind
 abbrev pub GrowsBy : (List ℕ → Type 0) → List ℕ → List ℕ → Type 0

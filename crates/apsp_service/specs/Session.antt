@@ -97,6 +97,13 @@ status_of s = if s.refused then 1 else 0
 abbrev pub Session : Mode → List ℕ → List ℕ → ℕ → Type 0
 Session (mode.Run workers smooth) bytes text status = HaveReplies (opening smooth) (lines_of bytes) text × (status ≡ status_of (after_lines (opening smooth) (lines_of bytes)))
 
+-- there is a text and a status that the session has for these bytes, and no other
+pub record HasOneText (mode : Mode) (bytes : List ℕ) : Type 0 where
+  pub text : List ℕ
+  pub status : ℕ
+  pub session : Session mode bytes text status
+  pub only : (other : List ℕ) (ended : ℕ) → Session mode bytes other ended → (other ≡ text) × (ended ≡ status)
+
 -- the replies to whole lines alone
 abbrev pub HasWholeReplies : Mode → List ℕ → List ℕ → Type 0
 HasWholeReplies (mode.Run workers smooth) bytes text = HaveReplies (opening smooth) (whole_lines bytes) text

@@ -5,11 +5,18 @@ use Rattle.apsp_service.specs.declared.stop.Stop.{Stop}
 use Rattle.script_reader.specs.Cutter.{StandsFor}
 use Rattle.apsp_service.specs.Begun.{lines_from, rest_from}
 use Rattle.apsp_service.specs.Session.{State, after_lines}
-use Rattle.apsp_service.specs.Giving.{StandFor, Gave, StopsAmong}
+use Rattle.apsp_service.specs.Giving.{HasNetwork, Gave, StopsAmong}
+
+-- the fields of a session say what the state says
+pub record HasState (session : Session) (s : State) : Type 0 where
+  pub network : HasNetwork session.network s
+  pub smooth : session.smooth ≡ s.smooth
+  pub lines : session.lines ≡ s.lines
+  pub refused : session.refused ≡ s.refused
 
 -- the session is after the lines of the state, and this content is begun
 pub record IsAt (session : Session) (s : State) (content : List ℕ) : Type 0 where
-  pub stands : StandFor session.network session.smooth session.lines session.refused s
+  pub stands : HasState session s
   pub begun : StandsFor session.cutter content
   pub opened : session.cutter.whole ≡ false
 

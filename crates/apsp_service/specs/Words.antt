@@ -1,8 +1,16 @@
 -- The words of the command line.
-use Rattle.std.specs.Prelude.{ℕ, true, false, List, [], ◌∷◌, Option, Some, None, codes, if◌then◌else◌}
+use Rattle.std.specs.Prelude.{ℕ, ◌≤◌, true, false, List, [], ◌∷◌, Option, Some, None, codes, if◌then◌else◌}
 use Rattle.std.specs.Str.{bytes_eq}
 use Rattle.apsp_service.specs.declared.words.Mode.{Mode}
 use Rattle.apsp_service.specs.declared.words.Mode.TheVariants as mode
+use Rattle.apsp_service.specs.declared.words.TheConstants.{MOST_WORKERS}
+
+-- how many workers there may be
+abbrev pub IsWorkerCount : ℕ → Type 0
+IsWorkerCount workers = (1 ≤ workers) × (workers ≤ MOST_WORKERS)
+
+abbrev pub HasWorkers : Mode → Type 0
+HasWorkers (mode.Run workers smooth) = IsWorkerCount workers
 
 -- what the options behind the mode `run` say
 abbrev pub run_of : List (List ℕ) → Option Mode

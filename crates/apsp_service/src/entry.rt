@@ -1,5 +1,5 @@
 ghost use Rattle.std.specs.Prelude.{◌≡◌, ◌⊎◌, ◌↔◌, ◌+◌, ◌≤◌, List, ℕ, length, map, None, IfSome, IsSome, string_bytes};
-ghost use Rattle.apsp_service.specs.Words.{mode_of};
+ghost use Rattle.apsp_service.specs.Words.{HasWorkers, mode_of};
 ghost use Rattle.apsp_io.specs.Streams.{Rose};
 ghost use Rattle.apsp_service.specs.Session.{Session};
 ghost use Rattle.apsp_service.specs.Outcome.{status_after, ReadToEnd, IsStatus, IsAnswered, IsStoppedEarly, IsCutShort, IsComplete, TookMoreThan, TookAtMost, SaysTooMuch, SaysRefused};
@@ -28,6 +28,7 @@ pub fn script<S: Source, K: Sink, G: Gate, R: Threads + Sync>(
     sink: &mut K,
     gate: &G,
 ) -> u8
+    requires workers { HasWorkers mode.now }
     // Of a status: the session of the whole input gives it, or what failed has counted a fault.
     ensures answered { ReadToEnd result → IsAnswered mode.now (S.left source.old) (S.left source.new) (K.held sink.old) (K.held sink.new) result }
     ensures source_failed { result ≡ 3 → Rose (S.faults source.old) (S.faults source.new) }

@@ -4,6 +4,7 @@
 
 mod crew;
 mod entry;
+pub mod laws;
 mod network;
 mod replies;
 mod run;
@@ -15,4 +16,4 @@ mod words;
 
 pub use entry::{script, top};
 pub use run::MOST_INPUT;
-pub use words::{Mode, read_words};
+pub use words::{MOST_WORKERS, Mode, read_words};

@@ -5,8 +5,8 @@ ghost use Rattle.script_reader.specs.Answer.{IsAnswer, Fits};
 ghost use Rattle.apsp_service.specs.Session.{State, opening, context_of, accepted, counted, HasReply, LineHasReply, after_line, after_lines};
 ghost use Rattle.script_reader.specs.Meaning.{line_of};
 ghost use Rattle.script_reader.specs.Input.{line_if_some};
-ghost use Rattle.apsp_service.specs.Giving.{StandFor, HasNetwork, IsNetworkOf, IsReady, GrowsBy, TextGiven, vertices_in, GivingEnds};
-ghost use Rattle.apsp_service.specs.Standing.{IsAt, IsSomewhere, TakesFront, TakesPiece};
+ghost use Rattle.apsp_service.specs.Giving.{HasNetwork, IsNetworkOf, IsReady, GrowsBy, TextGiven, vertices_in, GivingEnds};
+ghost use Rattle.apsp_service.specs.Standing.{HasState, IsAt, IsSomewhere, TakesFront, TakesPiece};
 ghost use Rattle.script_reader.specs.Cutter.{StandsFor};
 ghost use Rattle.apsp_model.specs.declared.TheConstants.{MOST_VERTICES};
 ghost use Rattle.apsp_service.specs.Begun.{lines_from, rest_from};
@@ -39,7 +39,7 @@ pub struct Session {
 impl Session {
     /// Before the first line.
     pub fn new(alloc: Global, smooth: bool) -> Result<Session, Memory>
-        ensures stands { IfOk result (λ s. StandFor s.network s.smooth s.lines s.refused (opening s.smooth)) }
+        ensures stands { IfOk result (λ s. HasState s (opening s.smooth)) }
         ensures smooth { IfOk result (λ s. s.smooth ≡ smooth) }
         ensures content { IfOk result (λ s. StandsFor s.cutter []) }
         ensures open { IfOk result (λ s. s.cutter.whole ≡ false) }
@@ -57,7 +57,7 @@ impl Session {
 
     /// What the meaning of the next line depends on.
     fn context(&self) -> Context
-        ensures context { (s : State) → StandFor self.now.network self.now.smooth self.now.lines self.now.refused s → result ≡ context_of s }
+        ensures context { (s : State) → HasState self.now s → result ≡ context_of s }
         ensures vertices { result.vertices ≡ vertices_in self.now.network }
         ensures most { result.vertices ≤ MOST_VERTICES }
         ensures no_blocks { (result.live ≡ false) × (result.inside ≡ false) }
@@ -77,7 +77,7 @@ impl Session {
 
     /// What the line that is begun asks for, or why and where it is refused.
     fn read(&self) -> Result<Line, LineError>
-        ensures reading { (s : State) (content : List ℕ) → StandFor self.now.network self.now.smooth self.now.lines self.now.refused s → StandsFor self.now.cutter content → IsAnswer (line_of (context_of s) content) result }
+        ensures reading { (s : State) (content : List ℕ) → HasState self.now s → StandsFor self.now.cutter content → IsAnswer (line_of (context_of s) content) result }
         ensures fits { IfOk result (Fits (vertices_in self.now.network)) }
     {
         if self.cutter.too_long() {
@@ -120,9 +120,9 @@ impl Session {
         crew: &Crew<'_, R, G>,
     ) -> Result<(), AllocError>
         requires few { self.old.lines + 1 < 2 ^ 32 }
-        requires stands { (s : State) × StandFor self.old.network self.old.smooth self.old.lines self.old.refused s }
-        ensures stands { (s : State) (content : List ℕ) → StandFor self.old.network self.old.smooth self.old.lines self.old.refused s → StandsFor self.old.cutter content → OnOk result (StandFor self.new.network self.new.smooth self.new.lines self.new.refused (after_line s content)) }
-        ensures reply { (s : State) (content : List ℕ) → StandFor self.old.network self.old.smooth self.old.lines self.old.refused s → StandsFor self.old.cutter content → OnOk result (LineHasReply s content (string_bytes self.new.text)) }
+        requires stands { (s : State) × HasState self.old s }
+        ensures stands { (s : State) (content : List ℕ) → HasState self.old s → StandsFor self.old.cutter content → OnOk result (HasState self.new (after_line s content)) }
+        ensures reply { (s : State) (content : List ℕ) → HasState self.old s → StandsFor self.old.cutter content → OnOk result (LineHasReply s content (string_bytes self.new.text)) }
         ensures cutter { self.new.cutter ≡ self.old.cutter }
         ensures lines { self.new.lines ≡ self.old.lines + 1 }
     {
@@ -146,9 +146,9 @@ impl Session {
         sink: &mut K,
     ) -> Result<(), Stop>
         requires few { self.old.lines + 1 < 2 ^ 32 }
-        requires stands { (s : State) × StandFor self.old.network self.old.smooth self.old.lines self.old.refused s }
-        ensures stands { (s : State) (content : List ℕ) → StandFor self.old.network self.old.smooth self.old.lines self.old.refused s → StandsFor self.old.cutter content → OnOk result (StandFor self.new.network self.new.smooth self.new.lines self.new.refused (after_line s content)) }
-        ensures gives { (s : State) (content : List ℕ) → StandFor self.old.network self.old.smooth self.old.lines self.old.refused s → StandsFor self.old.cutter content → GivingEnds result (K.held sink.old) (K.held sink.new) (K.faults sink.old) (K.faults sink.new) s (content ∷ []) }
+        requires stands { (s : State) × HasState self.old s }
+        ensures stands { (s : State) (content : List ℕ) → HasState self.old s → StandsFor self.old.cutter content → OnOk result (HasState self.new (after_line s content)) }
+        ensures gives { (s : State) (content : List ℕ) → HasState self.old s → StandsFor self.old.cutter content → GivingEnds result (K.held sink.old) (K.held sink.new) (K.faults sink.old) (K.faults sink.new) s (content ∷ []) }
         ensures lines { self.new.lines ≡ self.old.lines + 1 }
         ensures later { K.faults sink.old ≤ K.faults sink.new }
     {
@@ -215,7 +215,7 @@ impl Session {
         requires few { self.old.lines + 1 < 2 ^ 32 }
         requires stands { IsSomewhere self.old }
         ensures gives { (s : State) (content : List ℕ) → IsAt self.old s content → GivingEnds result (K.held sink.old) (K.held sink.new) (K.faults sink.old) (K.faults sink.new) s (line_if_some content) }
-        ensures refused { (s : State) (content : List ℕ) → IsAt self.old s content → OnOk result (self.new.refused ≡ (after_lines s (line_if_some content)).refused) }
+        ensures stands { (s : State) (content : List ℕ) → IsAt self.old s content → OnOk result (HasState self.new (after_lines s (line_if_some content))) }
         ensures later { K.faults sink.old ≤ K.faults sink.new }
     {
         if self.is_line_empty() {

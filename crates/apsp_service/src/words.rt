@@ -1,18 +1,22 @@
-ghost use Rattle.std.specs.Prelude.{◌≡◌, map, string_bytes};
-ghost use Rattle.apsp_service.specs.Words.{mode_of, run_of};
+ghost use Rattle.std.specs.Prelude.{◌≡◌, IfSome, map, string_bytes};
+ghost use Rattle.apsp_service.specs.Words.{HasWorkers, mode_of, run_of};
 ghost use Rattle.apsp_service.specs.declared.words.Mode.TheVariants as mode;
+
+/// The most workers of a mode.
+pub const MOST_WORKERS: u32 = 64;
 
 /// What the program is to do.
 #[derive(Clone, Copy, Debug, PartialEq, Eq)]
 pub enum Mode {
-    /// Runs a script, with so many workers and with or without smoothing.
+    /// Runs a script, with 1 to `MOST_WORKERS` workers and with or without smoothing.
     Run { workers: u32, smooth: bool },
 }
 
 /// The mode that the words of the command line give, and none where they are not in the grammar:
 /// no words, or the word `run`, with the option `--smooth` or without it. Takes no memory.
 pub fn read_words(words: &[String]) -> Option<Mode>
-    ensures { result ≡ mode_of (map string_bytes words.now) }
+    ensures mode { result ≡ mode_of (map string_bytes words.now) }
+    ensures workers { IfSome result HasWorkers }
 {
     match words {
         [] => run_mode(words),

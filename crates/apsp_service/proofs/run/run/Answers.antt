@@ -16,4 +16,4 @@ returns-in_err-answer_last-clause-ends g c =
 pub returns-clause-ends : goal.returns-clause-ends
 returns-clause-ends g c =
     let end = c.in_ok-answer_all.ensures.ends in
-    ran_for _ _ _ _ _ _ _ c.in_ok-session.ensures.smooth (ran_to_end _ _ _ _ _ _ _ _ end.0 end.1 c.in_ok-answer_last.ensures.gives (λ s content at. c.has_refused.ensures ∙ c.in_ok-answer_last.ensures.refused s content at))
+    ran_for _ _ _ _ _ _ _ c.in_ok-session.ensures.smooth (ran_to_end _ _ _ _ _ _ _ _ end.0 end.1 c.in_ok-answer_last.ensures.gives (λ s content at. c.has_refused.ensures ∙ (c.in_ok-answer_last.ensures.stands s content at).refused))

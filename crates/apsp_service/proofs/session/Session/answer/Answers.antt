@@ -8,7 +8,7 @@ obey-requires-clause-ready g c κs within = let s = c.requires.stands in ready_o
 
 pub returns-in-Ok-clause-stands : goal.returns-in-Ok-clause-stands
 returns-in-Ok-clause-stands g c = λ s content stands has.
-    line_stands _ s content _ _ _ _ _ (c.in-Ok.ensures.reading s content stands has) (c.obey.ensures.stands s stands.network stands.smooth)
+    line_stands _ s content _ _ (c.in-Ok.ensures.reading s content stands has) (c.obey.ensures.stands s stands.network stands.smooth)
     (c.obey.ensures.smooth ∙ stands.smooth) (c.obey.ensures.lines ∙ ap (λ n. n + 1) stands.lines) (c.obey.ensures.refused ∙ stands.refused)
 
 pub returns-in-Ok-clause-reply : goal.returns-in-Ok-clause-reply
