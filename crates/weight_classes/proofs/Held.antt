@@ -1,12 +1,12 @@
 -- The held ids by weight, when one more is held, and when an arena fits.
-use Rattle.std.specs.Prelude.{◌≡◌, ◌≢◌, ℕ, ◌+◌, ◌<◌, ◌≤◌, ◌⊎◌, true, false, cond, List, [], ◌∷◌, ◌++◌, length, Some, None, refl, Contains, Result, Ok, Err, OnOk, OnErr, is_ok}
+use Rattle.std.specs.Prelude.{◌≡◌, ◌≢◌, ℕ, ◌+◌, ◌<◌, ◌≤◌, ◌⊎◌, true, false, cond, List, [], ◌∷◌, ◌++◌, length, Some, None, refl, Contains, Result, Ok, Err, OnOk, OnErr}
 use Rattle.std.specs.Map.{lookup, set_value}
 use Rattle.std.specs.Ordering.{nat_cmp, is_eq, match_ordering}
 use Rattle.std.specs.BTreeMap.{is_at, insert_entry}
 use Rattle.std.specs.declared.cmp.Ordering.{Ordering}
 use Rattle.std.specs.declared.cmp.Ordering.TheVariants.{Less, Equal, Greater}
 use Rattle.std.proofs.Common.{sym, ◌∙◌, ap, subst, arith, inl, inr}
-use Rattle.std.proofs.lemmas.Bool.{true≢false, false≢true}
+use Rattle.std.proofs.lemmas.Bool.{true≢false}
 use Rattle.std.proofs.lemmas.Cmp.{ranked}
 use Rattle.std.proofs.lemmas.List.{length_push}
 use Rattle.std.proofs.lemmas.List.Elements.{Contains-append_left, Contains-push, Contains-push_cases}
@@ -66,7 +66,19 @@ at_head k x es key id v same is = record {
 
 -- ---- one more id in a bucket that is there
 
-pub more_at : (es : List (ℕ × SmallVec ℕ)) (key id : ℕ) (x v : SmallVec ℕ) → lookup (is_at (nat_cmp key)) es ≡ Some x → v.items ≡ x.items ++ id ∷ [] → IsHeldMore es (set_value (is_at (nat_cmp key)) es v) key id
+-- where no entry is added, the value at the key is set
+insert_there : (es : List (ℕ × SmallVec ℕ)) (key : ℕ) (v : SmallVec ℕ) → length (insert_entry nat_cmp es key v) ≡ length es → insert_entry nat_cmp es key v ≡ set_value (is_at (nat_cmp key)) es v
+insert_there [] key v long = absurd (omega (arith, long))
+insert_there (e ∷ es) key v long = go (nat_cmp key e.0) long (insert_there es key v)
+  where
+    go : (o : Ordering) → length (match_ordering o ((key, v) ∷ e ∷ es) ((e.0, v) ∷ es) (e ∷ insert_entry nat_cmp es key v)) ≡ length (e ∷ es)
+        → (length (insert_entry nat_cmp es key v) ≡ length es → insert_entry nat_cmp es key v ≡ set_value (is_at (nat_cmp key)) es v)
+        → match_ordering o ((key, v) ∷ e ∷ es) ((e.0, v) ∷ es) (e ∷ insert_entry nat_cmp es key v) ≡ cond (is_eq o) ((e.0, v) ∷ es) (e ∷ set_value (is_at (nat_cmp key)) es v)
+    go Less grown rest = absurd (omega (arith, grown))
+    go Equal grown rest = refl
+    go Greater grown rest = ap (λ (fs : List (ℕ × SmallVec ℕ)). e ∷ fs) (rest (omega (arith, grown)))
+
+more_at : (es : List (ℕ × SmallVec ℕ)) (key id : ℕ) (x v : SmallVec ℕ) → lookup (is_at (nat_cmp key)) es ≡ Some x → v.items ≡ x.items ++ id ∷ [] → IsHeldMore es (set_value (is_at (nat_cmp key)) es v) key id
 more_at [] key id x v found is = cc
 more_at (e ∷ es) key id x v found is = elim (key_or_not key e.0) [
   | inl here ↦
@@ -78,6 +90,9 @@ more_at (e ∷ es) key id x v found is = elim (key_or_not key e.0) [
       subst (λ (fs : List (ℕ × SmallVec ℕ)). IsHeldMore (e ∷ es) fs key id) (sym (ap (λ b. cond b ((e.0, v) ∷ es) (e ∷ set_value (is_at (nat_cmp key)) es v)) other.0))
       (in_tail e es (set_value (is_at (nat_cmp key)) es v) key id (more_at es key id x v (sym (ap (λ b. cond b (Some e.1) (lookup (is_at (nat_cmp key)) es)) other.0) ∙ found) is))
 ]
+
+pub more_there : (es : List (ℕ × SmallVec ℕ)) (key id : ℕ) (x v : SmallVec ℕ) → length (insert_entry nat_cmp es key v) ≡ length es → lookup (is_at (nat_cmp key)) es ≡ Some x → v.items ≡ x.items ++ id ∷ [] → IsHeldMore es (insert_entry nat_cmp es key v) key id
+more_there es key id x v long found is = subst (λ (fs : List (ℕ × SmallVec ℕ)). IsHeldMore es fs key id) (sym (insert_there es key v long)) (more_at es key id x v found is)
 
 -- ---- a bucket of its own
 
@@ -111,7 +126,7 @@ more_new (e ∷ es) key id v gone is = elim (key_or_not key e.0) [
 
 -- ---- where nothing is added
 
-pub held_in_same : (es : List (ℕ × SmallVec ℕ)) (key : ℕ) (x v : SmallVec ℕ) → lookup (is_at (nat_cmp key)) es ≡ Some x → v.items ≡ x.items → held_in (set_value (is_at (nat_cmp key)) es v) ≡ held_in es
+held_in_same : (es : List (ℕ × SmallVec ℕ)) (key : ℕ) (x v : SmallVec ℕ) → lookup (is_at (nat_cmp key)) es ≡ Some x → v.items ≡ x.items → held_in (set_value (is_at (nat_cmp key)) es v) ≡ held_in es
 held_in_same [] key x v found is = cc
 held_in_same (e ∷ es) key x v found is = elim (key_or_not key e.0) [
   | inl here ↦
@@ -123,18 +138,14 @@ held_in_same (e ∷ es) key x v found is = elim (key_or_not key e.0) [
       ∙ ap (λ hs. (e.0, e.1.items) ∷ hs) (held_in_same es key x v (sym (ap (λ b. cond b (Some e.1) (lookup (is_at (nat_cmp key)) es)) other.0) ∙ found) is)
 ]
 
+pub held_in_there : (es : List (ℕ × SmallVec ℕ)) (key : ℕ) (x v : SmallVec ℕ) → length (insert_entry nat_cmp es key v) ≡ length es → lookup (is_at (nat_cmp key)) es ≡ Some x → v.items ≡ x.items → held_in (insert_entry nat_cmp es key v) ≡ held_in es
+held_in_there es key x v long found is = ap held_in (insert_there es key v long) ∙ held_in_same es key x v found is
+
 -- ---- room
 
 pub roomy_more : (es : List (ℕ × SmallVec ℕ)) (a b : ℕ) → a ≤ b → AreRoomy a es → AreRoomy b es
 roomy_more [] a b upto h = tt
 roomy_more (e ∷ es) a b upto h = (omega (arith, h.0), roomy_more es a b upto h.1)
-
-pub roomy_set : (es : List (ℕ × SmallVec ℕ)) (key most : ℕ) (v : SmallVec ℕ) → length v.items ≤ most → AreRoomy most es → AreRoomy most (set_value (is_at (nat_cmp key)) es v)
-roomy_set [] key most v fits h = tt
-roomy_set (e ∷ es) key most v fits h = elim (key_or_not key e.0) [
-  | inl here ↦ subst (λ b. AreRoomy most (cond b ((e.0, v) ∷ es) (e ∷ set_value (is_at (nat_cmp key)) es v))) (sym here.0) (fits, h.1)
-  | inr other ↦ subst (λ b. AreRoomy most (cond b ((e.0, v) ∷ es) (e ∷ set_value (is_at (nat_cmp key)) es v))) (sym other.0) (h.0, roomy_set es key most v fits h.1)
-]
 
 pub roomy_insert : (es : List (ℕ × SmallVec ℕ)) (key most : ℕ) (v : SmallVec ℕ) → length v.items ≤ most → AreRoomy most es → AreRoomy most (insert_entry nat_cmp es key v)
 roomy_insert [] key most v fits h = (fits, tt)
@@ -189,11 +200,3 @@ on_ok (Err e) f p = p
 pub on_err : {A E P Q : Type 0} (r : Result A E) → (P → Q) → OnErr r P → OnErr r Q
 on_err (Ok a) f p = p
 on_err (Err e) f p = f p
-
-pub from_ok : {A B E F P : Type 0} (r : Result A E) (s : Result B F) (b : B) → s ≡ Ok b → is_ok s ≡ is_ok r → OnOk r P → P
-from_ok (Ok a) s b e same p = p
-from_ok (Err a) s b e same p = absurd (true≢false (sym (ap is_ok e) ∙ same))
-
-pub from_err : {A B E F P : Type 0} (r : Result A E) (s : Result B F) (b : F) → s ≡ Err b → is_ok s ≡ is_ok r → OnErr r P → P
-from_err (Ok a) s b e same p = absurd (false≢true (sym (ap is_ok e) ∙ same))
-from_err (Err a) s b e same p = p

@@ -1,8 +1,6 @@
 //! The held ids by weight.
 
-ghost use Rattle.std.specs.Prelude.{replicate, ◌≡◌, ℕ, ◌+◌, ◌*◌, ◌<◌, ◌≤◌, ◌⊎◌, ◌↔◌, [], Some, None, IfOk, OnOk, OnErr, MatchOption, IfNone, Contains, length, vec_len, vec_capacity, slice_index, ◌∷◌, ◌++◌};
-ghost use Rattle.std.specs.Ordering.{nat_cmp};
-ghost use Rattle.std.specs.BTreeMap.{get};
+ghost use Rattle.std.specs.Prelude.{replicate, ◌≡◌, ℕ, ◌+◌, ◌*◌, ◌<◌, ◌≤◌, ◌⊎◌, ◌↔◌, [], IfOk, OnOk, OnErr, MatchOption, IfNone, Contains, length, vec_len, vec_capacity, slice_index, ◌∷◌, ◌++◌};
 ghost use Rattle.path_arena.specs.Arena.{Arena as Paths, IsLive, weight_of};
 ghost use Rattle.weight_classes.specs.Classes.{Fits, IsHeld, IsPopped, IsPushed, IsWon};
 ghost use Rattle.weight_classes.specs.Inside.{AreRoomy, IsHeldMore, held_in};
@@ -12,6 +10,7 @@ use apsp_model::Memory;
 use path_arena::{Arena, PathId};
 use std::alloc::{AllocError, Global};
 use std::collections::BTreeMap;
+use std::collections::btree_map::Entry;
 use std::marker::Model;
 
 /// The winners of the ids of one weight.
@@ -180,30 +179,18 @@ fn hold(
     ensures err { OnErr result (held_in held.new.entries ≡ held_in held.old.entries) }
     ensures roomy { AreRoomy (vec_capacity keys.new) held.new.entries }
 {
-    match held.get_mut(&weight) {
-        Some(bucket) => put(bucket, keys, id),
-        None => hold_first(held, keys, alloc, weight, id),
+    let Ok(place) = held.entry(weight) else {
+        return Err(Memory);
+    };
+    match place {
+        Entry::Occupied(place) => put(place.into_mut(), keys, id),
+        Entry::Vacant(place) => {
+            let mut bucket = Ids::new(alloc);
+            put(&mut bucket, keys, id)?;
+            place.insert(bucket);
+            Ok(())
+        }
     }
-}
-
-/// Holds the first id of its weight.
-fn hold_first(
-    held: &mut BTreeMap<u64, Ids>,
-    keys: &mut Vec<Key>,
-    alloc: Global,
-    weight: u64,
-    id: PathId,
-) -> Result<(), Memory>
-    requires absent { get nat_cmp held.old weight ≡ None }
-    requires room { AreRoomy (vec_capacity keys.old) held.old.entries }
-    ensures ok { OnOk result (IsHeldMore held.old.entries held.new.entries weight id) }
-    ensures err { OnErr result (held_in held.new.entries ≡ held_in held.old.entries) }
-    ensures roomy { AreRoomy (vec_capacity keys.new) held.new.entries }
-{
-    let mut bucket = Ids::new(alloc);
-    put(&mut bucket, keys, id)?;
-    held.insert(weight, bucket).map_err(|_| Memory)?;
-    Ok(())
 }
 
 /// Puts an id behind the others of its weight, and makes room for their keys.
