@@ -130,6 +130,33 @@ known_at side id m n k known t q = ap (λ (o : Known). is_some (map.get o q)) t.
 pub still_known_at : (side : Side) (id : ℕ) (m n : Known) (k : ℕ) → IsKnown m k → IsTakenAt side id m n k → (q : ℕ) → IsKnown m q → IsKnown n q
 still_known_at side id m n k known t q known_q = known_at side id m n k known t q ∙ known_q
 
+none_on : (side : Side) (id : ℕ) → Contains (list_on side no_sides) id → ⊥
+none_on Left id c = absurd (omega (arith, c.1))
+none_on Right id c = absurd (omega (arith, c.1))
+none_on LeftStar id c = absurd (omega (arith, c.1))
+none_on RightStar id c = absurd (omega (arith, c.1))
+
+with_same : (side : Side) (s : Sides) → with_list side (list_on side s) s ≡ s
+with_same Left s = refl
+with_same Right s = refl
+with_same LeftStar s = refl
+with_same RightStar s = refl
+
+-- empty lists stay empty
+pub still_empty : (side : Side) (id : ℕ) (m n : Known) (k q : ℕ) → IsTakenAt side id m n k → sides_at m q ≡ no_sides → sides_at n q ≡ no_sides
+still_empty side id m n k q t none = elim (cases_eq q k) [
+  | inl same ↦
+      let here : sides_at m k ≡ no_sides = subst (λ r. sides_at m r ≡ no_sides) same none in
+      let kept : t.0 ≡ list_on side (sides_at m k) = t.1.absent (λ c. none_on side id (subst (λ (s : Sides). Contains (list_on side s) id) here c)) in
+      ap (λ r. sides_at n r) same
+      ∙ ap (λ (o : Known). sides_at o k) t.2
+      ∙ sides_at-change_same m k (with_list side t.0)
+      ∙ ap (λ xs. with_list side xs (sides_at m k)) kept
+      ∙ with_same side (sides_at m k)
+      ∙ here
+  | inr other ↦ ap (λ (o : Known). sides_at o q) t.2 ∙ sides_at-change_other m k (with_list side t.0) q other ∙ none
+]
+
 same_ends : (id : ℕ) (here : Bool) (a b c d : List ℕ) → a ≡ b → d ≡ c → IsLeft here id b c → IsLeft here id a d
 same_ends id here a b c d before after left = subst (λ x. IsLeft here id x d) (sym before) (subst (λ x. IsLeft here id b x) (sym after) left)
 

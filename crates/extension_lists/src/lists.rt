@@ -225,6 +225,7 @@ fn drop_from(slots: &mut Vec<Slot>, id: PathId, l: usize, r: usize)
     requires known { IsKnown (known_in slots.old.items) id }
     requires known_l { IsKnown (known_in slots.old.items) l }
     requires known_r { IsKnown (known_in slots.old.items) r }
+    requires empty { sides_at (known_in slots.old.items) id ≡ no_sides }
     ensures { IsDropped (known_in slots.old.items) (known_in slots.new.items) id l r }
 {
     take_out(slots, l, Side::Right, id);

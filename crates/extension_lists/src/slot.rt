@@ -25,8 +25,8 @@ pub(crate) enum Side {
 /// smaller: the vector of a longer list needs that room.
 type List = SmallVec<PathId, 4>;
 
-/// The lists of the id that has the key, if it is known. Their room stays when it is forgotten,
-/// and serves the next id of the key.
+/// The lists of the id that has the key, if it is known. They are empty when it is forgotten, and
+/// their room serves the next id of the key.
 #[derive(Drop)]
 pub(crate) struct Slot {
     known: bool,
@@ -37,7 +37,7 @@ pub(crate) struct Slot {
 }
 
 impl Model for Slot {
-    ghost use Rattle.std.specs.Prelude.{Option, Some, None, if◌then◌else◌};
+    ghost use Rattle.std.specs.Prelude.{◌≡◌, false, [], Option, Some, None, if◌then◌else◌};
     ghost use Rattle.std.specs.Coded.{coded_option};
     ghost use Rattle.apsp_model.specs.Walk.{IsOnceEach};
     ghost use Rattle.extension_lists.specs.Known.{Sides, sides_code};
@@ -48,7 +48,7 @@ impl Model for Slot {
 
     ghost view = { λ s. if s.known then Some (record { left = s.left.items; right = s.right.items; left_star = s.left_star.items; right_star = s.right_star.items }) else None };
 
-    ghost invariant = { λ s. IsOnceEach s.left.items × IsOnceEach s.right.items × IsOnceEach s.left_star.items × IsOnceEach s.right_star.items };
+    ghost invariant = { λ s. IsOnceEach s.left.items × IsOnceEach s.right.items × IsOnceEach s.left_star.items × IsOnceEach s.right_star.items × (s.known ≡ false → (s.left.items ≡ []) × (s.right.items ≡ []) × (s.left_star.items ≡ []) × (s.right_star.items ≡ [])) };
 }
 
 impl Slot {
@@ -70,16 +70,14 @@ impl Slot {
 
     /// Four empty lists, in the room that the lists have.
     pub(crate) fn enter(&mut self)
+        requires { self.old ≡ None }
         ensures { self.new ≡ Some no_sides }
     {
-        self.left.clear();
-        self.right.clear();
-        self.left_star.clear();
-        self.right_star.clear();
         self.known = true;
     }
 
     pub(crate) fn forget(&mut self)
+        requires { self.old ≡ Some no_sides }
         ensures { self.new ≡ None }
     {
         self.known = false;
@@ -101,6 +99,7 @@ impl Slot {
 
     /// Takes the last entry out of a list.
     pub(crate) fn pop(&mut self, side: Side)
+        requires { IsSome self.old }
         ensures { self.new ≡ option_map (without_last_on side) self.old }
     {
         match side {
@@ -113,6 +112,7 @@ impl Slot {
 
     /// Takes an id out of a list, if it stands there.
     pub(crate) fn take(&mut self, side: Side, id: PathId)
+        requires { IsSome self.old }
         ensures { IsTaken side id self.old self.new }
     {
         match side {

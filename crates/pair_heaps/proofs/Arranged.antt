@@ -1,5 +1,5 @@
 -- Lists of ids that are arranged by the order of their paths.
-use Rattle.std.specs.Prelude.{◌≡◌, ◌≢◌, ℕ, zero, suc, ◌+◌, ◌-◌, ◌<◌, ◌≤◌, ◌⊎◌, List, [], ◌∷◌, ◌++◌, length, take, drop, insert, remove, slice_get, if◌then◌else◌, Bool, true, false, Option, Some, None, IfSome, Contains, refl}
+use Rattle.std.specs.Prelude.{◌≡◌, ℕ, zero, suc, ◌+◌, ◌-◌, ◌<◌, ◌≤◌, List, [], ◌∷◌, ◌++◌, length, take, drop, insert, remove, slice_get, if◌then◌else◌, Bool, true, false, Option, Some, IfSome, Contains, refl}
 use Rattle.std.proofs.Common.{sym, ◌∙◌, ap, subst, arith, inl, inr, get_or, min, eqb, not}
 use Rattle.std.proofs.lemmas.Bool.{false≢true, true≢false}
 use Rattle.std.proofs.lemmas.Bool.Decides.{eqb_tells}
@@ -8,7 +8,7 @@ use Rattle.std.proofs.lemmas.List.{length-take, length-drop, get_or-take, get_or
 use Rattle.apsp_model.specs.Walk.{IsOnceEach}
 use Rattle.apsp_model.proofs.Lists.{contains_cons, contains_nil}
 use Rattle.path_arena.specs.Arena.{Arena}
-use Rattle.pair_heaps.specs.Heaps.{Heaps, held_at, IsBelow, IsArranged, IsWith, IsWithout, Fits, IsLeastHeld}
+use Rattle.pair_heaps.specs.Heaps.{Heaps, held_at, IsBelow, IsArranged, IsWith, IsWithout, IsLeastHeld}
 use Rattle.pair_heaps.proofs.Orders.{not_below_itself, below_chain, below_from, not_below_from}
 
 head_in : (x : ℕ) (xs : List ℕ) → Contains (x ∷ xs) x
@@ -179,14 +179,7 @@ searched_all_not_below a ids id low high q met s c =
     let k : (k : ℕ) × (low ≤ k) × (k < length ids) × (get_or ids k q ≡ q) = in_drop ids low q c in
     subst (λ w. IsBelow a w id → ⊥) k.3 (s.not_below k.0 q (omega (arith, k.1)) k.2)
 
--- ---- the place of an id among equal ones
-
--- the id stands at the place or behind it
-pub found_from : (a : Arena) (ids : List ℕ) (id place : ℕ) → Contains ids id → ((q : ℕ) → Contains (take place ids) q → IsBelow a q id) → Contains (drop place ids) id
-found_from a ids id place c below = elim (Contains-append_cases (take place ids) (drop place ids) id (subst (λ xs. Contains xs id) (sym (take-append-drop place ids)) c)) [
-  | inl front ↦ absurd (not_below_itself a id (below id front))
-  | inr back ↦ back
-]
+-- ---- the place of an id
 
 pub found_inside : (ids : List ℕ) (id place : ℕ) → Contains (drop place ids) id → place < length ids
 found_inside ids id place c = let k : (k : ℕ) × (place ≤ k) × (k < length ids) × (get_or ids k id ≡ id) = in_drop ids place id c in let l : place ≤ k.0 = k.1 in let m : k.0 < length ids = k.2 in omega arith
@@ -217,22 +210,20 @@ pub put_if : (pushed : Bool) (a : Arena) (id i : ℕ) (old new : List ℕ) → p
 put_if true a id i old new room is = put_at a id i old new is
 put_if false a id i old new room is = absurd (false≢true room)
 
-pub record IsTakenOut (a : Arena) (id : ℕ) (old new : List ℕ) : Type 0 where
-  pub one_less : IsWithout id old new
-  pub arranged : IsArranged a new
-
 split_at : (xs : List ℕ) (i id : ℕ) → slice_get xs i ≡ Some id → xs ≡ take i xs ++ id ∷ drop (suc i) xs
 split_at [] i id e = cc
 split_at (x ∷ xs) zero id e = let same : x ≡ id = cc in ap (λ z. z ∷ xs) same
 split_at (x ∷ xs) (suc i) id e = ap (λ zs. x ∷ zs) (split_at xs i id e)
 
-pub taken_at : (a : Arena) (id i : ℕ) (old new : List ℕ) → new ≡ remove old i → slice_get old i ≡ Some id → IsArranged a old → IsOnceEach old → IsTakenOut a id old new
-taken_at a id i old new is at arranged once =
+-- the ids that are left when one is taken out
+pub without_taken : (id i : ℕ) (old new : List ℕ) → new ≡ remove old i → slice_get old i ≡ Some id → IsOnceEach old → IsWithout id old new
+without_taken id i old new is at once =
     let whole : old ≡ take i old ++ id ∷ drop (suc i) old = split_at old i id at in
-    subst (IsTakenOut a id old) (sym is) (subst (λ xs. IsTakenOut a id xs (take i old ++ drop (suc i) old)) (sym whole) (record {
-      one_less = without_between (take i old) (drop (suc i) old) id (subst IsOnceEach whole once);
-      arranged = arranged_without a (take i old) (drop (suc i) old) id (subst (IsArranged a) whole arranged);
-    }))
+    subst (IsWithout id old) (sym is) (subst (λ xs. IsWithout id xs (take i old ++ drop (suc i) old)) (sym whole) (without_between (take i old) (drop (suc i) old) id (subst IsOnceEach whole once)))
+
+pub arranged_taken : (a : Arena) (id i : ℕ) (old new : List ℕ) → new ≡ remove old i → slice_get old i ≡ Some id → IsArranged a old → IsArranged a new
+arranged_taken a id i old new is at arranged =
+    subst (IsArranged a) (sym is) (arranged_without a (take i old) (drop (suc i) old) id (subst (IsArranged a) (split_at old i id at) arranged))
 
 -- the first id of arranged ones
 pub first_is_least : (a : Arena) (id : ℕ) (ids : List ℕ) (q : ℕ) → IsArranged a (id ∷ ids) → Contains (id ∷ ids) q → IsBelow a q id → ⊥

@@ -1,5 +1,5 @@
 -- What heaps need of an arena that they fit, and when they fit it after a change.
-use Rattle.std.specs.Prelude.{◌≡◌, ℕ, ◌⊎◌, ◌↔◌, List, [], ◌∷◌, Contains, Option, Some, None, IsSome, is_some, unwrap_or, cond, true, false, ◌<◌, Vec, refl}
+use Rattle.std.specs.Prelude.{◌≡◌, ℕ, ◌⊎◌, List, [], ◌∷◌, Contains, Some, None, IsSome, is_some, unwrap_or, cond, true, false, ◌<◌, Vec, refl}
 use Rattle.std.specs.Ordering.{nat_cmp, eq_by_cmp}
 use Rattle.std.specs.Cmp.{nat_cmp_total}
 use Rattle.std.specs.FinMap.{get-insert}
@@ -13,7 +13,7 @@ use Rattle.apsp_model.specs.Walk.{first, last}
 use Rattle.apsp_model.proofs.Lists.{contains_nil}
 use Rattle.path_arena.specs.declared.id.PathId.{PathId}
 use Rattle.path_arena.specs.Arena.{Arena, Path, path_at, with_path, no_path, IsArena, IsLive, list_of, weight_of, id_cmp}
-use Rattle.pair_heaps.specs.Heaps.{Pair, Heaps, pair_at, held_at, IsHeld, IsBelow, IsArranged, HasEnds, Fits, AgreeOnHeld, ChangesOnly, place_of}
+use Rattle.pair_heaps.specs.Heaps.{Pair, Heaps, held_at, IsHeld, IsArranged, HasEnds, Fits, AgreeOnHeld, ChangesOnly, place_of}
 use Rattle.pair_heaps.specs.Layout.{pair_of, heaps_of, IsHeaps}
 use Rattle.pair_heaps.proofs.Places.{same_pair, ends_inside, at_ends, IsWritten, written}
 

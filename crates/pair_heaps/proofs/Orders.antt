@@ -1,10 +1,10 @@
 -- The order of the paths of ids.
 use Rattle.std.specs.Prelude.{◌≡◌, ℕ, ◌==◌, true, false, refl}
-use Rattle.std.specs.Ordering.{nat_cmp, ordering_reverse, ordering_index}
+use Rattle.std.specs.Ordering.{ordering_reverse, ordering_index}
 use Rattle.std.specs.Cmp.{IsTotalOrder}
 use Rattle.std.specs.declared.cmp.Ordering.{Ordering}
 use Rattle.std.specs.declared.cmp.Ordering.TheVariants.{Less, Equal, Greater}
-use Rattle.std.proofs.Common.{sym, ◌∙◌, ap, subst}
+use Rattle.std.proofs.Common.{◌∙◌, ap}
 use Rattle.std.proofs.lemmas.Bool.{false≢true, true≢false}
 use Rattle.std.proofs.lemmas.Cmp.{nat_cmp_total, nat_list_cmp_total, on_total, then_total, tied_itself}
 use Rattle.apsp_model.specs.Walk.{hops_of}

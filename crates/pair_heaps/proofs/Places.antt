@@ -1,15 +1,15 @@
 -- The place of each pair in rows, and what a change of one pair leaves.
-use Rattle.std.specs.Prelude.{◌≡◌, ◌≢◌, ℕ, ◌+◌, ◌-◌, ◌*◌, ◌<◌, ◌≤◌, ◌⊎◌, ◌↔◌, Bool, true, false, cond, nat_lt, List, [], ◌∷◌, length, map, refl, Contains, Vec, Option, Some, None, IsSome, unwrap_or, Result, Ok, Err, OnOk, OnErr, is_ok, vec_len, vec_capacity}
+use Rattle.std.specs.Prelude.{◌≡◌, ℕ, ◌+◌, ◌-◌, ◌*◌, ◌<◌, ◌≤◌, ◌⊎◌, cond, List, [], ◌∷◌, length, map, refl, Contains, Vec, Option, Some, None, IsSome, unwrap_or, Result, Ok, Err, OnOk, OnErr, is_ok, vec_len, vec_capacity}
 use Rattle.std.specs.declared.alloc.Global.{Global}
 use Rattle.std.specs.List.{All}
 use Rattle.std.proofs.Common.{sym, ◌∙◌, ap, subst, arith, inl, inr, get_or, set, add-one}
 use Rattle.std.proofs.lemmas.Bool.{cases_eq, cases_lt, lt-ltb, le-ltb, false≢true, true≢false}
 use Rattle.std.proofs.lemmas.Nat.{mul-add-lt}
-use Rattle.std.proofs.lemmas.List.{get_or-set_same, get_or-set_other, get_or_past, get_or-map, get_or_default, map-set, length-set, length-map, set-get_or}
+use Rattle.std.proofs.lemmas.List.{get_or-set_same, get_or-set_other, get_or_past, get_or-map, map-set, length-set, length-map, set-get_or}
 use Rattle.apsp_model.specs.Walk.{IsOnceEach, first, last}
 use Rattle.path_arena.specs.declared.id.PathId.{PathId}
-use Rattle.path_arena.specs.Arena.{Arena, Path, IsArena, IsPath, IsLive, path_at, path_of, list_of, no_path}
-use Rattle.pair_heaps.specs.Heaps.{Pair, Heaps, no_pair, place_of, pair_at, held_at, spare_at, HasEnds, ChangesOnly, IsWith, IsWithout, IsReserved, IsInserted, IsRemoved}
+use Rattle.path_arena.specs.Arena.{Arena, Path, IsArena, IsLive, path_at, list_of, no_path}
+use Rattle.pair_heaps.specs.Heaps.{Pair, Heaps, no_pair, place_of, pair_at, held_at, HasEnds, ChangesOnly, IsWith, IsWithout, IsReserved, IsInserted, IsRemoved}
 use Rattle.pair_heaps.specs.Layout.{pair_of, heaps_of, IsHeaps}
 
 -- ---- places

@@ -1,5 +1,5 @@
 -- The ids that are held of each pair of vertices, and when they fit an arena.
-use Rattle.std.specs.Prelude.{◌≡◌, ◌≢◌, ℕ, ◌+◌, ◌-◌, ◌*◌, ◌<◌, ◌≤◌, ◌⊎◌, ◌↔◌, List, [], ◌∷◌, length, map, ⊤, if◌then◌else◌, nat_lt, Some, slice_index_or, vec_len, vec_capacity, refl, Contains}
+use Rattle.std.specs.Prelude.{◌≡◌, ◌≢◌, ℕ, ◌+◌, ◌*◌, ◌≤◌, ◌⊎◌, ◌↔◌, List, [], ◌∷◌, ⊤, if◌then◌else◌, nat_lt, Some, slice_index_or, refl, Contains}
 use Rattle.std.specs.Coded.{Coded, code_by, coded×, coded_ℕ, coded_list}
 use Rattle.std.specs.declared.cmp.Ordering.TheVariants.{Less}
 use Rattle.apsp_model.specs.Walk.{IsOnceEach, first, last}

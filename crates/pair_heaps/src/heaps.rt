@@ -15,8 +15,8 @@ use std::marker::Model;
 /// The held ids of each pair of vertices, each once. Contracts see them as a list per pair, in an
 /// order of this type's own, and a number of further ids for which the pair has room.
 ///
-/// The ids of a pair stand in the order of their paths, so the least is found at once, and a
-/// change takes as many comparisons as the logarithm of their number.
+/// The ids of a pair stand in the order of their paths, so the least is found at once. An id is put
+/// in with as many comparisons of paths as the logarithm of their number, and taken out with none.
 #[derive(Drop)]
 pub struct Heaps {
     n: u32,
@@ -90,7 +90,7 @@ impl Heaps {
     {
         let place = self.place(arena.first(id), arena.last(id));
         let ids = &mut self.pairs[place];
-        take_out(ids, arena, id);
+        take_out(ids, id);
     }
 
     /// The held id of the pair that none of them is below.
@@ -136,16 +136,14 @@ fn put(ids: &mut Vec<PathId>, arena: &Arena, id: PathId) -> Result<(), Memory>
     Ok(())
 }
 
-/// Takes an id out of the ids of a pair.
-fn take_out(ids: &mut Vec<PathId>, arena: &Arena, id: PathId)
+/// Takes an id out of the ids of a pair. The others stay as they were arranged.
+fn take_out(ids: &mut Vec<PathId>, id: PathId)
     requires held { Contains ids.old.items id }
-    requires all_live { (q : ℕ) → Contains ids.old.items q → IsLive arena.now q }
-    requires arranged { IsArranged arena.now ids.old.items }
     requires once { IsOnceEach ids.old.items }
     ensures without { IsWithout id ids.old.items ids.new.items }
     ensures spare { (pair_of ids.old).spare ≤ (pair_of ids.new).spare }
-    ensures arranged { IsArranged arena.now ids.new.items }
+    ensures arranged { (a : Paths) → IsArranged a ids.old.items → IsArranged a ids.new.items }
 {
-    let place = place_in(arena, ids, id);
+    let place = place_in(ids, id);
     ids.remove(place);
 }

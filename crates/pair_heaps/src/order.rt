@@ -29,15 +29,14 @@ pub(crate) fn first_not_below(arena: &Arena, ids: &[PathId], id: PathId) -> usiz
     low
 }
 
-/// The place of an id. Of the others only those are passed whose paths are equal to its path.
-pub(crate) fn place_in(arena: &Arena, ids: &[PathId], id: PathId) -> usize
-    requires held { Contains ids.now id }
-    requires all_live { (q : ℕ) → Contains ids.now q → IsLive arena.now q }
-    requires arranged { IsArranged arena.now ids.now }
+/// The place of an id. The ids of a pair are few and stand side by side, so a look at each of those
+/// before it costs less than a search by their paths, each of which stands somewhere else.
+pub(crate) fn place_in(ids: &[PathId], id: PathId) -> usize
+    requires { Contains ids.now id }
     ensures { slice_get ids.now result ≡ Some id }
 {
-    let mut place = first_not_below(arena, ids, id);
-    'equal: while ids[place] != id {
+    let mut place = 0;
+    'others: while ids[place] != id {
         place += 1;
     }
     place

@@ -1,5 +1,4 @@
-use Rattle.std.proofs.Common.{◌≡◌, sym, ◌∙◌, arith, true, false}
-use Rattle.std.specs.declared.cmp.Ordering.TheVariants.{Less}
+use Rattle.std.proofs.Common.{sym, ◌∙◌, arith}
 use Rattle.pair_heaps.proofs.Arranged.{searched_above, searched_below}
 use Rattle.pair_heaps.proofs.Orders.{less_from_test, not_less_from_test}
 use Rattle.pair_heaps.proofs.order.first_not_below.Goals as goal

@@ -1,8 +1,8 @@
 use Rattle.std.proofs.Common.{◌-◌, length, drop, Contains}
 use Rattle.pair_heaps.proofs.order.place_in.Given as goal
 
-abbrev pub invariant-equal : goal.invariant-equal
-invariant-equal l = Contains (drop l.place l.ids) l.id
+abbrev pub invariant-others : goal.invariant-others
+invariant-others l = Contains (drop l.place l.ids) l.id
 
-abbrev pub decreases-equal : goal.decreases-equal
-decreases-equal l = length l.ids - l.place
+abbrev pub decreases-others : goal.decreases-others
+decreases-others l = length l.ids - l.place

@@ -1,4 +1,3 @@
-use Rattle.std.proofs.Common.{◌≡◌}
 use Rattle.pair_heaps.specs.Heaps.{Fits}
 use Rattle.pair_heaps.proofs.tests.comes_out.Given as goal
 

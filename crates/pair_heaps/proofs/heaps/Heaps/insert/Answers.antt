@@ -1,9 +1,8 @@
-use Rattle.std.proofs.Common.{◌≡◌, ◌∙◌, sym, arith, inl}
 use Rattle.std.specs.Vec.{with_item}
 use Rattle.pair_heaps.specs.Layout.{pair_of, heaps_of}
 use Rattle.pair_heaps.specs.Heaps.{IsInserted}
-use Rattle.pair_heaps.proofs.Places.{IsWritten, inserted, at_ends, once_before, sound_now, on_ok_both, on_err}
-use Rattle.pair_heaps.proofs.Fits.{ends_in_rows, written_by_ends, live_before, arranged_before, fits_written}
+use Rattle.pair_heaps.proofs.Places.{IsWritten, inserted, at_ends, on_ok_both, on_err}
+use Rattle.pair_heaps.proofs.Fits.{ends_in_rows, written_by_ends, live_before, fits_written}
 use Rattle.pair_heaps.proofs.heaps.Heaps.insert.Goals as goal
 
 pub place-place-requires-clause-from : goal.place-place-requires-clause-from

@@ -1,4 +1,4 @@
-use Rattle.std.proofs.Common.{◌≡◌, ◌*◌, length, arith}
+use Rattle.std.proofs.Common.{arith}
 use Rattle.pair_heaps.specs.Heaps.{place_of}
 use Rattle.pair_heaps.specs.Layout.{heaps_of}
 use Rattle.pair_heaps.proofs.Places.{none_held, sound_none}

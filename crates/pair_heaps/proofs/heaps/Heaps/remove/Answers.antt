@@ -1,9 +1,9 @@
-use Rattle.std.proofs.Common.{◌≡◌, ◌∙◌, sym, arith, inl}
+use Rattle.std.proofs.Common.{inl}
 use Rattle.std.specs.Vec.{with_item}
 use Rattle.pair_heaps.specs.Layout.{pair_of, heaps_of}
 use Rattle.pair_heaps.specs.Heaps.{IsRemoved}
-use Rattle.pair_heaps.proofs.Places.{IsWritten, removed, at_ends, once_before, sound_now}
-use Rattle.pair_heaps.proofs.Fits.{ends_in_rows, written_by_ends, live_before, arranged_before, held_before, fits_written}
+use Rattle.pair_heaps.proofs.Places.{IsWritten, removed, at_ends}
+use Rattle.pair_heaps.proofs.Fits.{ends_in_rows, written_by_ends, arranged_before, held_before, fits_written}
 use Rattle.pair_heaps.proofs.heaps.Heaps.remove.Goals as goal
 
 pub first-requires : goal.first-requires
@@ -22,13 +22,6 @@ take_out-requires-clause-held c =
     (written_by_ends c.self.inside.n c.self.inside.pairs.items c.args.self.now c.args.arena.now c.args.id c.first.result c.last.result c.place-place.result c.index_mut-ids.result.now v c.self.view_is c.self.invariant c.requires.fits c.first.ensures.lawful (c.requires.fits.live _ _ c.args.id c.requires.held.2) (c.first.ensures.value, c.last.ensures.value) c.place-place.ensures.is c.index_mut-ids.ensures.value)
     c.requires.fits (c.first.ensures.value, c.last.ensures.value) c.requires.held
 
-pub take_out-requires-clause-all_live : goal.take_out-requires-clause-all_live
-take_out-requires-clause-all_live c =
-    let v = c.index_mut-ids.result.now in
-    live_before _ _ c.args.arena.now c.first.result c.last.result (pair_of v) (pair_of v)
-    (written_by_ends c.self.inside.n c.self.inside.pairs.items c.args.self.now c.args.arena.now c.args.id c.first.result c.last.result c.place-place.result c.index_mut-ids.result.now v c.self.view_is c.self.invariant c.requires.fits c.first.ensures.lawful (c.requires.fits.live _ _ c.args.id c.requires.held.2) (c.first.ensures.value, c.last.ensures.value) c.place-place.ensures.is c.index_mut-ids.ensures.value)
-    c.requires.fits
-
 is_written : (c : goal.After-self-1) → IsWritten c.args.self.now (heaps_of c.self.inside.n (with_item c.self.inside.pairs c.place-place.result c.take_out.new.ids).items) c.first.result c.last.result (pair_of c.index_mut-ids.result.now) (pair_of c.take_out.new.ids)
 is_written c = written_by_ends c.self.inside.n c.self.inside.pairs.items c.args.self.now c.args.arena.now c.args.id c.first.result c.last.result c.place-place.result c.index_mut-ids.result.now c.take_out.new.ids c.self.view_is c.self.invariant c.requires.fits c.first.ensures.lawful (c.requires.fits.live _ _ c.args.id c.requires.held.2) (c.first.ensures.value, c.last.ensures.value) c.place-place.ensures.is c.index_mut-ids.ensures.value
 
@@ -43,4 +36,5 @@ returns-clause-removed c =
 pub returns-clause-fits : goal.returns-clause-fits
 returns-clause-fits c =
     fits_written _ _ c.args.arena.now c.args.id c.first.result c.last.result _ _ (is_written c) c.requires.fits (c.requires.fits.live _ _ c.args.id c.requires.held.2) (c.first.ensures.value, c.last.ensures.value)
-    (λ r in_new. inl ((c.take_out.ensures.without.ids r).0 in_new).0) c.take_out.ensures.arranged
+    (λ r in_new. inl ((c.take_out.ensures.without.ids r).0 in_new).0)
+    (c.take_out.ensures.arranged c.args.arena.now (arranged_before _ _ c.args.arena.now c.first.result c.last.result _ _ (is_written c) c.requires.fits))

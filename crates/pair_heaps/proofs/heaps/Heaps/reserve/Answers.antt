@@ -1,7 +1,5 @@
-use Rattle.std.proofs.Common.{◌≡◌, sym, ◌∙◌, ap, subst, arith}
+use Rattle.std.proofs.Common.{sym, arith}
 use Rattle.std.specs.Vec.{with_item}
-use Rattle.path_arena.specs.Arena.{Arena}
-use Rattle.pair_heaps.specs.Heaps.{Fits}
 use Rattle.pair_heaps.specs.Layout.{pair_of, heaps_of}
 use Rattle.pair_heaps.proofs.Places.{IsWritten, written, reserved, held_stays, on_ok_as, on_err_as, same_pair_of, once_before, sound_now}
 use Rattle.pair_heaps.proofs.Fits.{fits_same}
