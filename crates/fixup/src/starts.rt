@@ -23,6 +23,7 @@ pub(crate) fn form_edges(book: &mut Book, graph: &Graph, v: u32, birth: u64) -> 
     ensures lawful { OnErr result (IsBook book.new) }
 {
     let n = graph.vertices();
+    // Read for what any reader says of a book: that it is lawful.
     let _ = book.count_paths();
     'edges: for u in 0..n {
         form_edge(book, graph, v, u, birth)?;
@@ -41,6 +42,7 @@ fn form_edge(book: &mut Book, graph: &Graph, from: u32, to: u32, birth: u64) -> 
     ensures lawful { IsBook book.new }
     ensures vertices { OnOk result (book.new.arena.vertices ≡ book.old.arena.vertices) }
 {
+    // Read for what any reader says of a book: that it is lawful.
     let _ = book.count_paths();
     if let Some(weight) = graph.weight(from, to) {
         book.form_edge(from, to, weight, birth)?;
