@@ -134,8 +134,9 @@ impl Engine {
     /// `Spent` changes nothing. After `Memory` the graph and the counts are those from before, and
     /// the engine is spent.
     ///
-    /// Time: for each step O(n²) for the heads of the pairs, and for each path that it takes away or
-    /// adds the logarithm of the paths of a pair.
+    /// Time: for each step a look at a flag of each of the n² pairs; for each path that it adds as many
+    /// comparisons as the logarithm of the paths of its pair; and for each that it takes away a look at
+    /// the paths of its pair and at the extensions of its two parts.
     pub fn star<R: Threads + Sync, G: Gate>(
         &mut self,
         rt: &R,
