@@ -1,5 +1,7 @@
-//! The graph as a table of weights, and the star of a vertex as two rows of it.
+//! The graph as a table of weights, the star of a vertex as two rows of it, and plans of updates.
 #![tactic(auto)]
+
+mod plan;
 
 ghost use Rattle.std.specs.Prelude.{◌≡◌, ◌≢◌, ℕ, ◌<◌, ◌≤◌, ◌*◌, ◌+◌, length, replicate, IfOk, IfSome, OnOk, OnErr, Option, Some, None, Ok, Err};
 ghost use Rattle.std.specs.FinMap as map;
@@ -11,6 +13,7 @@ ghost use Rattle.graph_store.specs.Rows.{cell_at, HasRow, HasColumn, HasStar, Is
 ghost use Rattle.graph_store.specs.Edges.{IsWeight, first_refusal, refusal_of, ok_unless, with_edge, with_maybe_edge};
 
 use apsp_model::{LEAST_WEIGHT, MOST_VERTICES, MOST_WEIGHT};
+pub use plan::Plan;
 use std::alloc::{AllocError, Global};
 use std::marker::Model;
 
@@ -400,6 +403,18 @@ mod tests {
             assert_eq!(rt; graph.weight(u, v), after, "after, {u} to {v}");
         }
         assert_eq!(rt; graph.vertices(), 3);
+        Ok(())
+    }
+
+    #[test]
+    fn updates_of_a_plan(rt: HostRuntime) -> Result<(), Fail> {
+        let graph = Graph::new(rt.alloc(), 3)?;
+        let mut plan = Plan::new(rt.alloc(), &graph, 7)?;
+        assert_eq!(rt; (plan.lo(), plan.hi()), (7, 7));
+        plan.add(Star::new(rt.alloc(), 3, 2)?)?;
+        plan.add(Star::new(rt.alloc(), 3, 0)?)?;
+        assert_eq!(rt; (plan.lo(), plan.hi()), (7, 9));
+        assert_eq!(rt; (plan.star(8).vertex(), plan.star(9).vertex()), (2, 0));
         Ok(())
     }
 }
