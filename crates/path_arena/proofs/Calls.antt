@@ -1,8 +1,8 @@
 -- The calls that change an arena, as contracts see it before and after.
 use Rattle.std.specs.Prelude.{◌≡◌, ◌≢◌, ℕ, zero, suc, ◌+◌, ◌-◌, ◌^◌, ◌<◌, ◌≤◌, ◌⊎◌, List, [], ◌∷◌, ◌++◌, length, Option, Some, None, unwrap_or, Result, IfOk, OnErr, slice_index, refl}
-use Rattle.std.proofs.Common.{sym, ◌∙◌, ap, subst, arith, get_or, inl, inr}
+use Rattle.std.proofs.Common.{sym, ◌∙◌, ap, subst, arith, inl, inr}
 use Rattle.std.proofs.lemmas.Bool.{cases_eq, cases_lt}
-use Rattle.std.proofs.lemmas.List.{length-append, get_or_default, get_or_append_left}
+use Rattle.std.proofs.lemmas.List.{length-append, get_or_append_left}
 use Rattle.std.proofs.Math.Seq.{get_or-append_seam}
 use Rattle.apsp_model.specs.declared.TheConstants.{MOST_VERTICES, MOST_WEIGHT}
 use Rattle.apsp_model.specs.Walk.{last}
@@ -24,14 +24,6 @@ pub record Added {E : Type 0} (singles : List ℕ) (new : List (Option Record)) 
 
 from_put : {E : Type 0} (singles : List ℕ) (old new : List (Option Record)) (p : Path) (o : Result ℕ E) → AfterPut singles old new p o → Added singles new (arena_in singles old) p o
 from_put singles old new p o h = record { kept = h.kept; fresh = h.fresh; added = h.added; memory = h.memory }
-
--- an index into a list, read with another default
-pub at_any_default : (xs : List ℕ) (i x : ℕ) → i < length xs → x ≡ get_or xs i x → x ≡ slice_index xs i
-at_any_default xs i x l e = e ∙ get_or_default xs i x 0 l
-
--- the id of a single vertex, as it is read
-pub single_read : (a : Inside) (m : Arena) → view_of a ≡ m → (u x : ℕ) → u < m.vertices → x ≡ get_or a.singles.items u x → x ≡ vertex_of m u
-single_read a m e u x l is = at_any_default a.singles.items u x (omega (arith, ap (λ n. n.vertices) e)) is ∙ ap (λ n. vertex_of n u) e
 
 pub edge_added : {E : Type 0} (a : Inside) (m : Arena) → view_of a ≡ m → IsSound a → (new : List (Option Record)) (u v w birth : ℕ) (r : Record) → u < m.vertices → v < m.vertices → u ≢ v → w ≤ MOST_WEIGHT → IsEdgeRecord m u v w birth r → (o : Result ℕ E) → IfOk o (λ key. IsPut a.records.slots new key r) → OnErr o (new ≡ a.records.slots) → Added a.singles.items new m (edge_path m u v w birth) o
 edge_added {E} a m e sound new u v w birth r from to apart most is o ok same =
@@ -73,7 +65,7 @@ right_is_live m l r h can left is =
 pub record JoinFacts (m : Arena) (l r birth : ℕ) (left right overlap : Record) : Type 0 where
   pub lighter : overlap.weight ≤ right.weight
   pub weight_fits : left.weight + (right.weight - overlap.weight) < 2 ^ 64
-  pub hops_fit : left.hops + 1 < 2 ^ 32
+  pub hops_fit : left.hops + 1 < 2 ^ 16
   pub is : (q : Record) → q ≡ record { weight = left.weight + (right.weight - overlap.weight); birth = birth; first = left.first; last = right.last; hops = left.hops + 1; left = l; right = r } → IsJoinRecord m l r (joined_path m l r birth).weight birth q
 
 pub join_facts : (m : Arena) (l r birth : ℕ) → IsArena m → CanJoin m l r → (left right overlap : Record) → IsRecordOf (path_of m l) left → IsRecordOf (path_of m r) right → IsRecordOf (path_of m left.right) overlap → JoinFacts m l r birth left right overlap

@@ -21,9 +21,10 @@ use std::marker::Model;
 struct Record {
     weight: u64,
     birth: u64,
-    first: u32,
-    last: u32,
-    hops: u32,
+    // Vertices and numbers of edges are below 2^16. With 16 bits each a slot of the slab takes 40 bytes.
+    first: u16,
+    last: u16,
+    hops: u16,
     // The ids of the path without its last vertex, and without its first vertex.
     left: PathId,
     right: PathId,
@@ -94,14 +95,15 @@ impl Arena {
         ensures lawful { IsArena self.new }
         ensures memory { OnErr result (self.new ≡ self.old) }
     {
+        let (left, right) = (self.vertex(u), self.vertex(v));
         let edge = Record {
             weight: u64::from(w),
             birth,
-            first: u,
-            last: v,
+            first: u as u16,
+            last: v as u16,
             hops: 1,
-            left: self.singles[u as usize],
-            right: self.singles[v as usize],
+            left,
+            right,
         };
         put(&mut self.records, edge)
     }
@@ -154,7 +156,7 @@ impl Arena {
         ensures value { first (list_of self.now id) ≡ Some result }
         ensures lawful { IsArena self.now }
     {
-        self.record(id).first
+        u32::from(self.record(id).first)
     }
 
     /// The last vertex of a live path.
@@ -163,7 +165,7 @@ impl Arena {
         ensures value { last (list_of self.now id) ≡ Some result }
         ensures lawful { IsArena self.now }
     {
-        self.record(id).last
+        u32::from(self.record(id).last)
     }
 
     /// The weight of a live path.
@@ -181,7 +183,7 @@ impl Arena {
         ensures value { result ≡ hops_of (list_of self.now id) }
         ensures lawful { IsArena self.now }
     {
-        self.record(id).hops
+        u32::from(self.record(id).hops)
     }
 
     /// The birth of a live path.
@@ -280,14 +282,15 @@ impl Arena {
 
 /// The record of a single vertex.
 fn single_record(v: u32) -> Record
+    requires { v < MOST_VERTICES }
     ensures { IsSingleRecord v result }
 {
     let unused = PathId::new(0);
     Record {
         weight: 0,
         birth: 0,
-        first: v,
-        last: v,
+        first: v as u16,
+        last: v as u16,
         hops: 0,
         left: unused,
         right: unused,

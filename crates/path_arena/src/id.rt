@@ -28,8 +28,8 @@ impl Default for PathId {
 }
 
 impl PathId {
-    /// The id of the record under this key.
-    pub(crate) fn new(key: u32) -> PathId
+    /// The id of this key, which need not be that of a record.
+    pub fn new(key: u32) -> PathId
         ensures { result ≡ key }
     {
         PathId { key }

@@ -1,21 +1,21 @@
 use Rattle.std.proofs.Common.{refl, arith}
 use Rattle.path_arena.specs.Arena.{edge_path}
-use Rattle.path_arena.proofs.Calls.{Added, edge_added, single_read}
+use Rattle.path_arena.proofs.Calls.{Added, edge_added}
 use Rattle.path_arena.proofs.arena.Arena.edge.Goals as goal
 
 -- what the call makes of the arena
 added : (c : goal.After-put) → Added c.self.inside.singles.items c.put.new.records.slots c.args.self.now (edge_path c.args.self.now c.args.u c.args.v c.args.w c.args.birth) c.put.result
 added c =
     edge_added c.self.inside c.args.self.now c.self.view_is c.self.invariant c.put.new.records.slots
-    c.args.u c.args.v c.args.w c.args.birth (record { weight = c.from.result; birth = c.args.birth; first = c.args.u; last = c.args.v; hops = 1; left = c.index.result.now; right = c.index-2.result.now }) c.requires.from c.requires.to c.requires.apart (omega (arith, c.ranges.w))
+    c.args.u c.args.v c.args.w c.args.birth (record { weight = c.from.result; birth = c.args.birth; first = c.args.u; last = c.args.v; hops = 1; left = c.vertex-left.result; right = c.vertex-right.result }) c.requires.from c.requires.to c.requires.apart (omega (arith, c.ranges.w))
     (record {
       weight = cc;
       birth_is = refl;
       first = refl;
       last = refl;
       hops = refl;
-      left = single_read c.self.inside c.args.self.now c.self.view_is c.args.u c.index.result.now c.requires.from c.index.ensures;
-      right = single_read c.self.inside c.args.self.now c.self.view_is c.args.v c.index-2.result.now c.requires.to c.index-2.ensures;
+      left = c.vertex-left.ensures.value;
+      right = c.vertex-right.ensures.value;
     })
     c.put.result c.put.ensures.ok c.put.ensures.memory
 
