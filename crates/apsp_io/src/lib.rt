@@ -8,7 +8,7 @@ mod sink;
 mod source;
 mod standard;
 
-pub use gate::{Gate, HELD, OpenGate, PUBLISHED, TASK};
+pub use gate::{Gate, HELD, OpenGate, PUBLISHED, PairGate, TASK};
 pub use memory::{Cutoff, MemorySink, MemorySource};
 pub use sink::{GiveError, Sink};
 pub use source::{Failed, Source};

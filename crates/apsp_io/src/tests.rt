@@ -2,6 +2,7 @@ use super::*;
 use std::io;
 use std::io::{Cursor, ErrorKind, Read};
 use std::test::Fail;
+use std::thread::join;
 
 /// Takes what a source gives, through its bound, and says whether the end was reached.
 fn drain<S: Source>(source: &mut S, room: &mut [u8], all: &mut Vec<u8>) -> Result<bool, Fail> {
@@ -127,4 +128,20 @@ fn a_writer_is_a_sink(rt: HostRuntime) -> Result<(), Fail> {
 #[test]
 fn an_open_gate_keeps_nobody() {
     pass_each(&OpenGate);
+}
+
+#[test]
+fn a_pair_gate_shows_two_passes_of_its_kind_at_once(rt: HostRuntime) {
+    let alone = PairGate::new(TASK, 1000);
+    pass_each(&alone);
+    pass_each(&alone);
+    assert!(rt; !alone.met());
+
+    let other = PairGate::new(HELD, 1000);
+    join(&rt, || other.pass(0, TASK), || other.pass(1, TASK));
+    assert!(rt; !other.met());
+
+    let pair = PairGate::new(TASK, 100_000_000);
+    join(&rt, || pair.pass(0, TASK), || pair.pass(1, TASK));
+    assert!(rt; pair.met());
 }
