@@ -1,5 +1,5 @@
 -- A source and a sink in memory, with the calls that fail listed by number.
-use Rattle.std.specs.Prelude.{ℕ, ◌+◌, ◌-◌, ◌^◌, ◌==◌, min, List, length, find, Option}
+use Rattle.std.specs.Prelude.{ℕ, ◌==◌, min, List, length, find, Option}
 use Rattle.apsp_io.specs.declared.memory.Cutoff.{Cutoff}
 
 -- a source in memory: the bytes that are left, the most bytes that a call gives, the numbers of
@@ -18,10 +18,6 @@ pub record Sink : Type 0 where
   pub failing : List Cutoff
   pub calls : ℕ
   pub faults : ℕ
-
--- after one more call; the count stays at its last value
-abbrev pub next_call : ℕ → ℕ
-next_call calls = min (calls + 1) (2 ^ 64 - 1)
 
 -- how many bytes a call gives that does not fail
 abbrev pub given : Source → List ℕ → ℕ

@@ -1,8 +1,8 @@
 ghost use Rattle.std.specs.Prelude.{◌≡◌, ◌+◌, ◌-◌, ◌≤◌, ◌↔◌, [], ◌++◌, take, drop, length, Contains, Some, None, IfOk, OnOk, OnErr, IfErr, IsErr, IsErrOf, IsTrue, IsSomeAnd, IfSome, ◌^◌, ◌<◌};
 ghost use Rattle.std.specs.Io.{ReadsAtMost};
 ghost use Rattle.std.specs.Io.KnownBytes.{ReadConsumes, Appends};
-ghost use Rattle.apsp_io.specs.Streams.{Rose, GrowsByPrefix};
-ghost use Rattle.apsp_io.specs.Memory.{Source as SourceState, Sink as SinkState, next_call, given, cutoff_at};
+ghost use Rattle.apsp_io.specs.Streams.{next_count, Rose, GrowsByPrefix};
+ghost use Rattle.apsp_io.specs.Memory.{Source as SourceState, Sink as SinkState, given, cutoff_at};
 
 use crate::{Failed, GiveError, Sink, Source};
 use std::alloc::Global;
@@ -66,8 +66,8 @@ impl Source for MemorySource {
         ensures fails { IsErr result ↔ Contains self.old.failing (self.old.calls + 1) }
         ensures count { IfOk result (λ k. k ≡ given self.old into.old) }
         ensures into { IfOk result (λ k. into.new ≡ take k self.old.left ++ drop k into.old) }
-        ensures ok { IfOk result (λ k. self.new ≡ record self.old { left = drop k self.old.left; calls = next_call self.old.calls }) }
-        ensures err { OnErr result (self.new ≡ record self.old { calls = next_call self.old.calls; faults = self.old.faults + 1 }) }
+        ensures ok { IfOk result (λ k. self.new ≡ record self.old { left = drop k self.old.left; calls = next_count self.old.calls }) }
+        ensures err { OnErr result (self.new ≡ record self.old { calls = next_count self.old.calls; faults = self.old.faults + 1 }) }
         ensures err_into { OnErr result (into.new ≡ into.old) }
     {
         let fails = is_listed(&self.failing, self.calls);
@@ -160,9 +160,9 @@ impl Sink for MemorySink {
 
         ensures gives { OnOk result (cutoff_at self.old.failing (self.old.calls + 1) ≡ None) }
         ensures fails { IsErrOf result GiveError.Failed → IsSomeAnd (cutoff_at self.old.failing (self.old.calls + 1))
-            (λ cutoff. self.new ≡ record self.old { held = self.old.held ++ take cutoff.kept piece.now; calls = next_call self.old.calls; faults = self.old.faults + 1 }) }
-        ensures ok { OnOk result (self.new ≡ record self.old { held = self.old.held ++ piece.now; calls = next_call self.old.calls }) }
-        ensures nothing { IsErrOf result GiveError.Memory → self.new ≡ record self.old { calls = next_call self.old.calls } }
+            (λ cutoff. self.new ≡ record self.old { held = self.old.held ++ take cutoff.kept piece.now; calls = next_count self.old.calls; faults = self.old.faults + 1 }) }
+        ensures ok { OnOk result (self.new ≡ record self.old { held = self.old.held ++ piece.now; calls = next_count self.old.calls }) }
+        ensures nothing { IsErrOf result GiveError.Memory → self.new ≡ record self.old { calls = next_count self.old.calls } }
     {
         let cutoff = cutoff_after(&self.failing, self.calls);
         self.calls = self.calls.saturating_add(1);

@@ -1,7 +1,7 @@
-ghost use Rattle.std.specs.Prelude.{◌≡◌, ◌<◌, IfOk, OnOk, OnErr};
-ghost use Rattle.std.specs.Io.{WritesAtMost};
-ghost use Rattle.std.specs.Io.KnownBytes.{Appends, WriteAppends};
-ghost use Rattle.apsp_io.specs.Streams.{GrowsByPrefix};
+ghost use Rattle.std.specs.Prelude.{◌≡◌, ◌<◌, ◌≤◌, IfOk, OnOk, OnErr, IfErr, IsErrOf};
+ghost use Rattle.std.specs.Io.{ReadsAtMost, WritesAtMost};
+ghost use Rattle.std.specs.Io.KnownBytes.{ReadConsumes, Appends, WriteAppends};
+ghost use Rattle.apsp_io.specs.Streams.{next_count, Rose, GrowsByPrefix};
 ghost use Rattle.apsp_io.specs.Standard.{reader_of, read_faults_of, writer_of, write_faults_of};
 
 use crate::{Failed, GiveError, Sink, Source};
@@ -30,7 +30,15 @@ impl<R: Read + Drop> Source for StdSource<R> {
 
     ghost faults = { read_faults_of };
 
-    fn take(&mut self, into: &mut [u8]) -> Result<usize, Failed> {
+    fn take(&mut self, into: &mut [u8]) -> Result<usize, Failed>
+        ensures bound { ReadsAtMost result into.new }
+        ensures bytes { ReadConsumes (R.remaining (reader_of self.old)) (R.remaining (reader_of self.new)) result into.new }
+        ensures later { read_faults_of self.old ≤ read_faults_of self.new }
+        ensures failed { OnErr result (Rose (read_faults_of self.old) (read_faults_of self.new)) }
+
+        ensures ok { OnOk result (read_faults_of self.new ≡ read_faults_of self.old) }
+        ensures err { OnErr result (read_faults_of self.new ≡ next_count (read_faults_of self.old)) }
+    {
         match self.reader.read(into) {
             Ok(count) => Ok(count),
             Err(_) => {
@@ -65,7 +73,18 @@ impl<W: Write + Drop> Sink for StdSink<W> {
 
     ghost faults = { write_faults_of };
 
-    fn give(&mut self, piece: &[u8]) -> Result<(), GiveError> {
+    fn give(&mut self, piece: &[u8]) -> Result<(), GiveError>
+        ensures given { OnOk result (Appends (W.contents (writer_of self.old)) (W.contents (writer_of self.new)) piece.now) }
+        ensures part { IsErrOf result GiveError.Failed → GrowsByPrefix (W.contents (writer_of self.old)) (W.contents (writer_of self.new)) piece.now }
+        ensures later { write_faults_of self.old ≤ write_faults_of self.new }
+        ensures failed { IsErrOf result GiveError.Failed → Rose (write_faults_of self.old) (write_faults_of self.new) }
+        ensures memory { IsErrOf result GiveError.Memory → W.contents (writer_of self.new) ≡ W.contents (writer_of self.old) }
+        ensures memory_faults { IsErrOf result GiveError.Memory → write_faults_of self.new ≡ write_faults_of self.old }
+
+        ensures never_memory { IfErr result (λ e. e ≡ GiveError.Failed) }
+        ensures ok { OnOk result (write_faults_of self.new ≡ write_faults_of self.old) }
+        ensures err { OnErr result (write_faults_of self.new ≡ next_count (write_faults_of self.old)) }
+    {
         match write_out(&mut self.writer, piece) {
             Ok(()) => Ok(()),
             Err(Failed) => {

@@ -1,6 +1,7 @@
 use super::*;
+use std::cell::Cell;
 use std::io;
-use std::io::{Cursor, ErrorKind, Read};
+use std::io::{BufWriter, Cursor, ErrorKind, Read, Write};
 use std::test::Fail;
 use std::thread::join;
 
@@ -102,10 +103,16 @@ fn a_reader_is_a_source(rt: HostRuntime) -> Result<(), Fail> {
         );
         assert_eq!(rt; all.as_slice(), b"0123456789".as_slice(), "room for {room}");
     }
+    Ok(())
+}
+
+#[test]
+fn a_reader_that_fails_once_is_heard_once(rt: HostRuntime) -> Result<(), Fail> {
     let mut source = StdSource::new(Halting { reads: 0 });
-    let mut all = Vec::new(alloc);
-    assert!(rt; !drain(&mut source, &mut [0; 7], &mut all)?);
-    assert_eq!(rt; all.as_slice(), b"x".as_slice());
+    let mut room = [0; 7];
+    assert_eq!(rt; source.take(&mut room), Ok(1));
+    assert_eq!(rt; source.take(&mut room), Err(Failed));
+    assert_eq!(rt; source.take(&mut room), Ok(1));
     Ok(())
 }
 
@@ -122,6 +129,90 @@ fn a_writer_is_a_sink(rt: HostRuntime) -> Result<(), Fail> {
     assert_eq!(rt; put(&mut short, b"1234"), Ok(()));
     assert_eq!(rt; put(&mut short, b"5678"), Err(GiveError::Failed));
     assert_eq!(rt; put(&mut short, b""), Ok(()));
+    Ok(())
+}
+
+/// A writer that takes two bytes at a write, and fails at the write and at the flush of these
+/// numbers, counted from 1. It tells how many bytes it took.
+#[derive(Drop)]
+struct Faltering<'a> {
+    taken: &'a Cell<usize>,
+    writes: u8,
+    flushes: u8,
+    failing_write: u8,
+    failing_flush: u8,
+}
+
+impl Faltering<'_> {
+    fn new(taken: &Cell<usize>, failing_write: u8, failing_flush: u8) -> Faltering<'_> {
+        Faltering {
+            taken,
+            writes: 0,
+            flushes: 0,
+            failing_write,
+            failing_flush,
+        }
+    }
+}
+
+impl Write for Faltering<'_> {
+    fn write(&mut self, buf: &[u8]) -> io::Result<usize> {
+        self.writes = self.writes.saturating_add(1);
+        if self.writes == self.failing_write {
+            return Err(ErrorKind::BrokenPipe.into());
+        }
+        let count = buf.len().min(2);
+        self.taken.set(self.taken.get().saturating_add(count));
+        Ok(count)
+    }
+
+    fn flush(&mut self) -> io::Result<()> {
+        self.flushes = self.flushes.saturating_add(1);
+        if self.flushes == self.failing_flush {
+            return Err(ErrorKind::BrokenPipe.into());
+        }
+        Ok(())
+    }
+}
+
+/// No error is passed over, and each is told once: three pieces of five bytes, each of which is
+/// three writes and a flush.
+#[test]
+fn a_writer_that_fails_once_is_heard_once(rt: HostRuntime) -> Result<(), Fail> {
+    let failed = Err(GiveError::Failed);
+    for (failing_write, failing_flush, answers, taken) in [
+        (0, 0, [Ok(()), Ok(()), Ok(())], [5, 10, 15]),
+        (5, 0, [Ok(()), failed, Ok(())], [5, 7, 12]),
+        (0, 2, [Ok(()), failed, Ok(())], [5, 10, 15]),
+    ] {
+        let count = Cell::new(0);
+        let mut sink = StdSink::new(Faltering::new(&count, failing_write, failing_flush));
+        for i in 0..3 {
+            assert_eq!(rt;
+                put(&mut sink, b"piece"),
+                answers[i],
+                "write {failing_write}, flush {failing_flush}, piece {i}"
+            );
+            assert_eq!(rt;
+                count.get(),
+                taken[i],
+                "write {failing_write}, flush {failing_flush}, piece {i}"
+            );
+        }
+    }
+    Ok(())
+}
+
+/// What stands behind a buffer has the whole piece after each give: it was flushed.
+#[test]
+fn each_piece_is_flushed(rt: HostRuntime) -> Result<(), Fail> {
+    let alloc = rt.alloc();
+    let count = Cell::new(0);
+    let mut sink = StdSink::new(BufWriter::new(alloc, Faltering::new(&count, 0, 0))?);
+    for given in [5, 10, 15] {
+        assert_eq!(rt; put(&mut sink, b"piece"), Ok(()));
+        assert_eq!(rt; count.get(), given);
+    }
     Ok(())
 }
 
