@@ -10,7 +10,7 @@ import re
 import sys
 
 TOP = os.path.dirname(os.path.dirname(os.path.abspath(__file__)))
-HEADER = ["promise", "call", "clause"]  # of the tables that are read
+HEADER = ["promise", "call", "clause"]
 UNNAMED = "its clause"
 
 OPENS = re.compile(r"(?:pub )?(?:unsafe )?(?P<kind>impl|trait)\b(?P<rest>[^{]*)")
@@ -66,15 +66,17 @@ def calls_in(lines):
 
 
 def read_sources():
-    """The clauses of each public call, by its owner and name, and then by its crate."""
+    """The clauses of each public call, by crate::call or crate::Type::call."""
     calls = {}
     for crate in sorted(os.listdir(os.path.join(TOP, "crates"))):
-        for folder, _, files in os.walk(os.path.join(TOP, "crates", crate, "src")):
+        source = os.path.join(TOP, "crates", crate, "src")
+        for folder, _, files in os.walk(source):
             for name in sorted(files):
                 if name.endswith(".rt") and name != "tests.rt":
                     with open(os.path.join(folder, name), encoding="utf-8") as file:
                         for owner, call, clauses in calls_in(file.read().split("\n")):
-                            calls.setdefault((owner, call), {}).setdefault(crate, set()).update(clauses)
+                            path = "::".join(part for part in (crate, owner, call) if part)
+                            calls.setdefault(path, set()).update(clauses)
     return calls
 
 
@@ -96,34 +98,25 @@ def quoted(text):
     return re.findall(r"`([^`]*)`", text)
 
 
-def clauses_of(path, sources):
-    """The clauses of a call that is named by call, Type::call, crate::call or crate::Type::call, with or without modules."""
-    parts = path.split("::")
-    owner = parts[-2] if len(parts) > 1 and parts[-2][0].isupper() else None
-    found = sources.get((owner, parts[-1]), {})
-    if not parts[0][0].isupper() and len(parts) > 1:
-        found = {crate: clauses for crate, clauses in found.items() if crate == parts[0]}
-    if not found:
-        raise LookupError(f"{path} is no public call of the sources")
-    if len(found) > 1:
-        raise LookupError(f"{path} is a call of {' and of '.join(found)}: name the crate")
-    return next(iter(found.values()))
-
-
 def faults_of_row(cells, sources):
-    """The number of calls of a row, and what is wrong with each."""
-    calls = quoted(cells[1]) if len(cells) == 3 else []
+    """The number of calls of a row, and what is wrong with it."""
+    if len(cells) != 3:
+        return 1, ["a row has three cells"]
+    calls, groups = quoted(cells[1]), cells[2].split(";")
     if not calls:
         return 1, ["names no call"]
-    clauses = [""] if cells[2] == UNNAMED else quoted(cells[2])
-    faults = [] if clauses else ["names no clause"]
-    for call in calls:
-        try:
-            missing = [clause for clause in clauses if clause not in clauses_of(call, sources)]
-            if missing:
-                faults.append(f"{call} has no clause {', '.join(name or 'without a name' for name in missing)}")
-        except LookupError as error:
-            faults.append(str(error))
+    if len(groups) == 1:
+        groups *= len(calls)
+    if len(groups) != len(calls):
+        return len(calls), [f"has {len(calls)} calls and {len(groups)} groups of clauses"]
+    faults = []
+    for call, group in zip(calls, groups):
+        names = [""] if group.strip() == UNNAMED else quoted(group)
+        if call not in sources:
+            faults.append(f"{call} is no public call of the sources")
+        elif not names:
+            faults.append(f"{call} has no clause here")
+        faults += [f"{call} has no clause {name or 'without a name'}" for name in names if name not in sources.get(call, {name})]
     return len(calls), faults
 
 

@@ -9,6 +9,7 @@ A case is a folder with
     status      the exit status (missing: 0)
     fault       `read K`: reading fails behind the first K bytes; `write K`: writing fails behind them
 The scripts of examples are cases too: examples/NAME.txt with NAME.out, run with the words in NAME.words, if any.
+users.py has further checks, of the wrapper, the documents, the clients and the examples.
 """
 
 import os
@@ -19,6 +20,8 @@ import subprocess
 import sys
 import tempfile
 import tty
+
+import users
 
 HERE = os.path.dirname(os.path.abspath(__file__))
 TOP = os.path.dirname(HERE)
@@ -115,6 +118,8 @@ def main():
             continue
         failed += 1
         print(f"{name}: words {words}\n  wanted {status} {short(expected)}\n  got    {end} {short(got)}")
+    more, missed = users.checks(PROGRAM, wanted)
+    passed, failed = passed + more, failed + missed
     print(f"{passed} passed, {failed} failed")
     return 1 if failed or not passed else 0
 

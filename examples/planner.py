@@ -1,0 +1,84 @@
+"""Plans a way through a town, and asks what each street of it is worth: it is closed, the detour is read, and it is opened again.
+
+    python3 examples/planner.py [--town FILE] [--from V] [--to V] [--svg FILE] [--check]
+
+--check also takes the certificate of the town as it stands at the end and hands it to the program's own checker.
+"""
+
+import argparse
+import os
+
+import town as towns
+import apsp
+
+WAY, DETOUR, CLOSED = "#1f5fa8", "#e08a1e", "#c0282d"
+
+
+def arguments():
+    parser = argparse.ArgumentParser(description=__doc__.split("\n")[0])
+    parser.add_argument("--town", default=os.path.join(towns.HERE, "river-town.txt"))
+    parser.add_argument("--from", dest="start", type=int, default=20)
+    parser.add_argument("--to", type=int, default=30)
+    parser.add_argument("--svg")
+    parser.add_argument("--check", action="store_true")
+    return parser.parse_args()
+
+
+def detour(network, streets, u, v, start, to):
+    """The least way with the street between u and v closed."""
+    network.cut(u, v)
+    network.cut(v, u)
+    way = network.path(start, to)
+    network.edge(u, v, streets[u, v])
+    network.edge(v, u, streets[v, u])
+    return way
+
+
+def told(way):
+    return " ".join(map(str, way.vertices))
+
+
+def main():
+    given = arguments()
+    town = towns.Town(given.town)
+    with apsp.Network(town.crossings) as network:
+        town.enter(network)
+        way = network.path(given.start, given.to)
+        if way is None:
+            print(f"no way leads from {given.start} to {given.to}")
+            return
+        print(f"from {given.start} to {given.to}: {way.distance} m by {told(way)}")
+        print("closed     more m  the way then")
+        detours = []
+        for u, v in zip(way.vertices, way.vertices[1:]):
+            other = detour(network, town.streets, u, v, given.start, given.to)
+            more = other.distance - way.distance if other else None
+            print(f"{u:>3} - {v:<3}  {'none' if more is None else more:>6}  {told(other) if other else ''}")
+            detours.append((more, u, v, other))
+        stats = network.stats()
+        print(f"{stats.updates} updates, {stats.paths} paths kept")
+        if given.check:
+            try:
+                print(apsp.check(network.certificate()))
+            except (apsp.Command, apsp.Ended):
+                print("this program has no certificates")
+    if given.svg:
+        draw(town, way, detours, given.svg)
+
+
+def draw(town, way, detours, file):
+    """The way, the detour that costs most, and the closed street that causes it."""
+    picture = towns.Picture(town)
+    picture.line(way.vertices, WAY, 9)
+    costly = [one for one in detours if one[3]]
+    if costly:
+        more, u, v, other = max(costly, key=lambda one: one[0])
+        picture.line(other.vertices, DETOUR, 6, dashes="14 9")
+        picture.cross(u, v, CLOSED)
+    picture.dot(way.vertices[0], WAY, "from")
+    picture.dot(way.vertices[-1], WAY, "to")
+    picture.write(file)
+
+
+if __name__ == "__main__":
+    main()

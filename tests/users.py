@@ -1,0 +1,239 @@
+"""What a user meets beside the program: the wrapper, the documents' commands, the clients and the examples."""
+
+import os
+import re
+import shlex
+import shutil
+import subprocess
+import sys
+import tempfile
+
+HERE = os.path.dirname(os.path.abspath(__file__))
+TOP = os.path.dirname(HERE)
+SECONDS = 120
+
+FAKE_RT = """#!/bin/sh
+# Stands for the prover: says what it would say of two crates, and leaves the program.
+echo "crate low: modules loaded=0 checked=1"
+echo "logic=proved functions=1"
+sleep 0.2
+echo "crate apsp: modules loaded=0 checked=1"
+echo "logic=%s functions=1"
+%s
+"""
+
+
+class Skip(Exception):
+    """A check that cannot be made here, and why."""
+
+
+def same(got, wanted, what):
+    if got != wanted:
+        raise AssertionError(f"{what}\n  wanted {wanted!r}\n  got    {got!r}")
+
+
+def text_of(*names):
+    with open(os.path.join(TOP, *names), encoding="utf-8") as file:
+        return file.read()
+
+
+def run(words, **how):
+    return subprocess.run(words, stdout=subprocess.PIPE, stderr=subprocess.PIPE, timeout=SECONDS, text=True, **how)
+
+
+class Checkout:
+    """A copy of what a user sees of a checkout, with the program or without it, and no crate's sources."""
+
+    def __init__(self, program=None):
+        self.folder = tempfile.TemporaryDirectory()
+        self.top = self.folder.name
+        for name in ("docs", "examples", "wrapper", "clients"):
+            shutil.copytree(os.path.join(TOP, name), os.path.join(self.top, name))
+        for name in ("apsp", "VERSION"):
+            shutil.copy2(os.path.join(TOP, name), self.top)
+        with open(os.path.join(self.top, "crates.txt"), "w", encoding="ascii") as file:
+            file.write("low:\napsp: low\n")
+        for folder in ("src", "specs", "proofs"):
+            os.makedirs(os.path.join(self.top, "crates", "apsp", folder))
+        if program:
+            os.makedirs(os.path.join(self.top, "crates", "apsp", "out"))
+            self.program = os.path.join(self.top, "crates", "apsp", "out", "apsp")
+            shutil.copy(program, self.program)
+
+    def __enter__(self):
+        return self
+
+    def __exit__(self, *_):
+        self.folder.cleanup()
+
+    def apsp(self, *words, **how):
+        return run([os.path.join(self.top, "apsp"), *words], **how)
+
+    def with_rt(self, status, leaves):
+        """The environment with a prover that is none, or with none at all."""
+        folder = os.path.join(self.top, "bin")
+        os.makedirs(folder, exist_ok=True)
+        rt = os.path.join(folder, "rt")
+        with open(rt, "w", encoding="ascii") as file:
+            file.write(FAKE_RT % (status, leaves))
+        os.chmod(rt, 0o755)
+        return dict(os.environ, PATH=f"{folder}:/usr/bin:/bin", TMPDIR=self.top)
+
+
+def help_builds_nothing(_program):
+    with Checkout() as here:
+        usage, version = text_of("wrapper", "usage.txt"), text_of("VERSION")
+        for words, wanted in ((["help"], usage), (["--help"], usage), (["--version"], version)):
+            done = here.apsp(*words, env={"PATH": "/usr/bin:/bin"})
+            same((done.returncode, done.stdout, done.stderr), (0, wanted, ""), words)
+        done = here.apsp(env={"PATH": "/usr/bin:/bin"})
+        same((done.returncode, done.stdout), (127, ""), "neither the program nor rt is there")
+
+
+def words_that_are_none_get_the_usage(program):
+    with Checkout(program) as here:
+        for words in (["runs"], ["run", "--smooth", "--smooth"]):
+            done = here.apsp(*words, input="")
+            same((done.returncode, done.stdout, done.stderr), (2, "", text_of("wrapper", "usage.txt")), words)
+
+
+def a_link_leads_to_the_program(program):
+    with Checkout(program) as here:
+        os.makedirs(os.path.join(here.top, "elsewhere"))
+        link = os.path.join(here.top, "elsewhere", "shortest")
+        os.symlink("../apsp", link)
+        done = run([link, "run"], input="vertices 2\ndist 0 1\nfoo\n")
+        same((done.returncode, done.stdout), (1, "dist 0 1 none\nline 3 error 3 at 1\n"), "through a link")
+
+
+def a_build_names_each_crate(program):
+    with Checkout() as here:
+        leaves = f"mkdir -p out && cp {shlex.quote(program)} out/apsp"
+        done = here.apsp(input="vertices 2\ndist 0 1\n", env=here.with_rt("proved", leaves))
+        same((done.returncode, done.stdout), (0, "dist 0 1 none\n"), "what is built runs")
+        told = done.stderr.splitlines()
+        same(told[1:], ["apsp: low is proved (1 of 2)", "apsp: apsp is proved (2 of 2)"], "the crates")
+        log = told[0].split()[-1]
+        same((os.path.dirname(log), os.path.exists(log)), (here.top, False), "the log is named, and removed at the end")
+
+
+def a_build_that_fails_says_where_the_log_is(_program):
+    with Checkout() as here:
+        done = here.apsp(input="vertices 2\n", env=here.with_rt("not-proved", "exit 1"))
+        same((done.returncode, done.stdout), (127, ""), "no program")
+        last = done.stderr.splitlines()[-1]
+        log = last.split()[-1]
+        same((last, os.path.exists(log)), (f"apsp: the build failed; the log is {log}", True), "the log stays")
+
+
+def the_manual_has_the_usage(_program):
+    lines = text_of("docs", "apsp.1").replace("\\-", "-").splitlines()
+    heads = [line[4:].lower() if line.startswith(".SH ") else line for line in lines if not line.startswith(".") or line.startswith(".SH ")]
+    usage = [line for line in text_of("wrapper", "usage.txt").splitlines() if line]
+    same([line for line in heads if line != "name"], usage, "docs/apsp.1 beside wrapper/usage.txt")
+
+
+def wrong_lines():
+    for code, line, reply, expected in re.findall(r"^\| (\d+) \| (.*) \| `(line .*)` \| (.*) \|$", text_of("docs", "FORMATS.md"), re.M):
+        yield int(code), "x" * 65537 if code == "10" else line.strip("`"), reply, expected
+
+
+def each_code_has_its_wrong_line(program):
+    codes = []
+    for code, line, reply, _ in wrong_lines():
+        codes.append(code)
+        done = run([program], input=("" if code == 1 else "vertices 3\n") + line + "\n")
+        same((done.returncode, done.stdout), (1, reply + "\n"), line[:80])
+    same(codes, list(range(1, 1 + len(codes))), "the codes of docs/FORMATS.md")
+    assert codes, "no wrong line is read from docs/FORMATS.md"
+
+
+def explain_says_what_is_expected(program):
+    with Checkout(program) as here:
+        for code, line, reply, expected in wrong_lines():
+            script = os.path.join(here.top, "wrong.txt")
+            with open(script, "w", encoding="ascii") as file:
+                file.write(("" if code == 1 else "vertices 3\n") + line + "\n")
+            done = here.apsp("explain", "wrong.txt", cwd=here.top)
+            told = done.stdout.splitlines()
+            form = {"dist 0": "dist X Y, 3 words"}.get(line, expected)
+            same((done.returncode, done.stderr, len(told)), (1, "", 4), line[:80])
+            same((told[0], told[3]), (reply, f"  expected: {form}"), line[:80])
+            assert told[1].strip()[:80] in line[:80], told[1][:90]
+        done = here.apsp("explain", "nothing.txt", cwd=here.top)
+        same((done.returncode, done.stdout), (2, ""), "a script that is not there")
+
+
+def commands_of_the_documents(program):
+    """Each command that stands behind `$ ` in a document gives what the document shows below it."""
+    found = 0
+    with Checkout(program) as here:
+        pages = ["README.md"] + [os.path.join(folder, name) for folder in ("docs", "examples") for name in sorted(os.listdir(os.path.join(TOP, folder)))]
+        for page in pages:
+            if not page.endswith(".md"):
+                continue
+            for block in re.findall(r"^```\w*\n(.*?)^```$", text_of(page), re.M | re.S):
+                for command, output in re.findall(r"^\$ (.*)\n((?:(?!\$ ).*\n)*)", block, re.M):
+                    done = run(["bash", "-c", command], cwd=here.top)
+                    same(done.stdout, output, f"{page}: {command}\n  {done.stderr[-600:]}")
+                    found += 1
+    assert found >= 4, f"only {found} commands were found"
+
+
+def pictures_of_the_examples(program):
+    with Checkout(program) as here:
+        for name in ("planner", "simulator"):
+            done = run([sys.executable, f"examples/{name}.py", "--svg", "new.svg"], cwd=here.top, env=dict(os.environ, APSP_PROGRAM=program))
+            same((done.returncode, done.stderr), (0, ""), name)
+            with open(os.path.join(here.top, "new.svg"), encoding="ascii") as file:
+                same(file.read() == text_of("examples", f"{name}.svg"), True, f"examples/{name}.svg is what {name}.py draws")
+        done = run([sys.executable, "examples/planner.py", "--check"], cwd=here.top, env=dict(os.environ, APSP_PROGRAM=program))
+        verdict = done.stdout.splitlines()[-1]
+        if verdict == "this program has no certificates":
+            raise Skip(verdict)
+        same(verdict, "certificate yes 80", "the checker's verdict on the planner's certificate")
+
+
+def client_in_python(program):
+    done = run([sys.executable, os.path.join(TOP, "clients", "python", "test_apsp.py")], env=dict(os.environ, APSP_PROGRAM=program))
+    same(done.returncode, 0, done.stderr[-3000:])
+    if "skipped" in done.stderr:
+        raise Skip(done.stderr.splitlines()[-1] + ": this program has no certificates")
+
+
+def client_in_c(program):
+    compiler = os.environ.get("CC") or shutil.which("cc") or shutil.which("gcc") or shutil.which("clang")
+    if not compiler:
+        raise Skip("no C compiler is here")
+    with tempfile.TemporaryDirectory() as folder:
+        built = os.path.join(folder, "test_apsp")
+        sources = [os.path.join(TOP, "clients", "c", name) for name in ("apsp.c", "test_apsp.c")]
+        done = run([compiler, "-std=c11", "-O1", "-Wall", "-Wextra", "-o", built, *sources])
+        same((done.returncode, done.stderr), (0, ""), "the client compiles without a warning")
+        done = run([built, program])
+        same(done.returncode, 0, done.stdout)
+        if "skipped" in done.stdout:
+            raise Skip(done.stdout.strip())
+
+
+CHECKS = [help_builds_nothing, words_that_are_none_get_the_usage, a_link_leads_to_the_program, a_build_names_each_crate,
+          a_build_that_fails_says_where_the_log_is, the_manual_has_the_usage, each_code_has_its_wrong_line,
+          explain_says_what_is_expected, commands_of_the_documents, pictures_of_the_examples, client_in_python, client_in_c]
+
+
+def checks(program, wanted=()):
+    """Makes each check, or those that are wanted, and gives the number of those that passed and failed."""
+    passed = failed = 0
+    for check in CHECKS:
+        name = check.__name__
+        if wanted and name not in wanted:
+            continue
+        try:
+            check(program)
+            passed += 1
+        except Skip as why:
+            print(f"{name}: skipped, in part or whole: {why}")
+        except (AssertionError, OSError, subprocess.SubprocessError) as problem:
+            failed += 1
+            print(f"{name}: {problem}")
+    return passed, failed
