@@ -41,11 +41,12 @@ def owner_of(line):
 def clauses_behind(lines, at):
     """The names of the clauses of the function that begins at this line; an empty one where a clause has no name."""
     names = set()
+    indent = re.match(" *", lines[at])[0]
     for line in lines[at + 1 :]:
         found = CLAUSE.match(line)
         if found:
             names.add(found["name"] or "")
-        elif line.strip() in ("{", "}") or FUNCTION.match(line):
+        elif line in (indent + "{", indent + "}", indent + "{}") or FUNCTION.match(line):
             break
         elif line.rstrip().endswith((";", "{")) and not line.startswith(" " * 8):
             break
