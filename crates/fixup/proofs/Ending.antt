@@ -11,13 +11,12 @@ use Rattle.apsp_model.specs.Settled.{IsSettled}
 use Rattle.path_arena.specs.Arena.{IsLive, list_of}
 use Rattle.path_arena.proofs.Paths.{live_path, live_from, path_of_at}
 use Rattle.path_book.specs.Book.{Book, IsBook, kept_paths, PathsCount, HistoricalCount}
-use Rattle.weight_classes.specs.Classes.{Classes, IsHeld}
+use Rattle.weight_classes.specs.Classes.{Classes, Rank, IsHeld}
 use Rattle.fixup_math.proofs.Counting.{count_without, count_unique, count_same, count_either, count_decides}
-use Rattle.fixup_math.proofs.Ranks.{ByWeight}
+use Rattle.fixup_math.proofs.Ranks.{ByWeightThenHops, weight_then_hops_is_rank}
 use Rattle.fixup_math.proofs.Settling.{settled}
 use Rattle.fixup_math.proofs.Start.{vertex_of_one}
 use Rattle.fixup.proofs.Growth.{grown_weights, grown_births}
-use Rattle.fixup.proofs.Promoting.{rank_of}
 use Rattle.fixup.proofs.Starting.{kept_is, historical_is, single_marked}
 use Rattle.fixup.specs.Views.{HeldIn, Kept, Marked, WonIn}
 use Rattle.fixup.specs.Growth.{IsAt}
@@ -95,10 +94,10 @@ module _ (g : Graph) (birth : ℕ) (b0 b : Book) (c : Classes) (lawful0 : IsBook
   historical_rise m n before after = counts_rise (λ p. IsHistoricalIn (kept_paths b0) p × IsWithEdge p) (λ p. IsHistoricalIn (kept_paths b) p × IsWithEdge p) m n before after (λ p h. (historical_grows p h.0, h.1))
 
   -- where nothing is held any more
-  pub all_settled : ((w id : ℕ) → IsHeld c w id → ⊥) → (m n h k : ℕ) → PathsCount b0 m → PathsCount b n → HistoricalCount b0 h → HistoricalCount b k → IsSettled g birth (kept_paths b0) (kept_paths b) (n - m) (k - h)
+  pub all_settled : ((r : Rank) (id : ℕ) → IsHeld c r id → ⊥) → (m n h k : ℕ) → PathsCount b0 m → PathsCount b n → HistoricalCount b0 h → HistoricalCount b k → IsSettled g birth (kept_paths b0) (kept_paths b) (n - m) (k - h)
   all_settled empty m n h k paths0 paths1 marks0 marks1 = record {
     historical = λ p.
-        let e = settled g (ByWeight g) (rank_of g s.graph) (Marked b0) (Marked b) (Kept b) (HeldIn b c) (WonIn c) s.settling (λ q held. empty held.0 held.1 held.2) p in (
+        let e = settled g (ByWeightThenHops g) (weight_then_hops_is_rank g) (Marked b0) (Marked b) (Kept b) (HeldIn b c) (WonIn c) s.settling (λ q held. empty held.0 held.1 held.2) p in (
           λ a. elim (e.0 ((historical_is b s.grown.lawful p).0 a)) [ inl old ↦ inl ((historical_is b0 lawful0 p).1 old) | inr least ↦ inr least ],
           λ a. (historical_is b s.grown.lawful p).1 (e.1 (elim a [ inl old ↦ inl ((historical_is b0 lawful0 p).0 old) | inr least ↦ inr least ])),
         );

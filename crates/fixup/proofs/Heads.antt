@@ -3,7 +3,7 @@ use Rattle.std.specs.Prelude.{◌≡◌, ℕ, ◌+◌, ◌*◌, ◌<◌, ◌⊎�
 use Rattle.std.specs.FinSet as set
 use Rattle.std.proofs.Common.{sym, ◌∙◌, ap, subst, arith, inl, inr}
 use Rattle.std.proofs.lemmas.Bool.{cases_lt}
-use Rattle.apsp_model.specs.Graph.{Graph, IsGraph}
+use Rattle.apsp_model.specs.Graph.{Graph}
 use Rattle.apsp_model.specs.Walk.{IsWalk, IsWalkFrom, first, last}
 use Rattle.apsp_model.specs.Least.{IsLeast}
 use Rattle.apsp_model.specs.Local.{IsLocal, IsVertex}
@@ -11,19 +11,19 @@ use Rattle.apsp_model.proofs.Simples.{inside_walk}
 use Rattle.path_arena.specs.Arena.{list_of}
 use Rattle.path_book.specs.Book.{Book, IsMarked, IsLeastKept, KeepsNone}
 use Rattle.pair_heaps.specs.Heaps.{HasEnds}
-use Rattle.weight_classes.specs.Classes.{Classes, Fits, IsHeld, IsWon, IsPushed}
+use Rattle.weight_classes.specs.Classes.{Classes, Rank, Fits, IsHeld, IsWon, IsPushed}
 use Rattle.fixup_math.proofs.Counting.{head_in, tail_in}
 use Rattle.fixup_math.proofs.Firsts.{IsQueued, queued_at_start, IsLeastKept as IsLeastKeptOf}
 use Rattle.fixup_math.proofs.Settling.{IsSettling, settling_starts}
 use Rattle.fixup_math.proofs.Start.{IsCleaned, IsEdgeAt, walk_back, vertex_of_one}
 use Rattle.fixup.specs.Starts.{IsHeadHeld}
-use Rattle.fixup.proofs.Held.{held_at, held_pushed}
+use Rattle.fixup.proofs.Held.{held_pushed}
 use Rattle.fixup.proofs.Promoting.{least_kept}
 use Rattle.fixup.proofs.Starting.{single_marked}
 use Rattle.fixup.specs.Views.{HeldIn, Kept, Marked, WonIn}
 use Rattle.fixup.specs.Growth.{IsAt, IsGrown, IsHead, IsQueueing, StandsBefore}
 
-pub queueing_starts : (b : Book) (c : Classes) → Fits c b.arena → ((u v : ℕ) → WonIn c u v → ⊥) → ((w id : ℕ) → IsHeld c w id → ⊥) → IsQueueing b 0 0 c
+pub queueing_starts : (b : Book) (c : Classes) → Fits c b.arena → ((u v : ℕ) → WonIn c u v → ⊥) → ((r : Rank) (id : ℕ) → IsHeld c r id → ⊥) → IsQueueing b 0 0 c
 queueing_starts b c fits none_won empty = record {
   fits = fits;
   none_won = none_won;
@@ -135,9 +135,8 @@ settling_same g H0 H H1 K Q Won marks s = record {
     back p l = record { simple = l.simple; walk = l.walk; parts = λ q part. (marks q).0 (l.parts q part) }
 
 -- once all heads are held
-pub at_start : (g : Graph) (v birth : ℕ) (b0 b : Book) (c : Classes) → IsGraph g → IsGrown g birth b0 b → b.marked ≡ b0.marked → ((id : ℕ) → IsMarked b0 id → list_of b.arena id ≡ list_of b0.arena id) → IsCleaned g v (Marked b0) (Kept b0) → ((p : List ℕ) → Kept b p ↔ (Kept b0 p ⊎ IsEdgeAt g v p)) → IsQueueing b b.arena.vertices 0 c → IsAt g birth b0 b c
-at_start g v birth b0 b c graph grown marks lists cleaned formed s = record {
-  graph = graph;
+pub at_start : (g : Graph) (v birth : ℕ) (b0 b : Book) (c : Classes) → IsGrown g birth b0 b → b.marked ≡ b0.marked → ((id : ℕ) → IsMarked b0 id → list_of b.arena id ≡ list_of b0.arena id) → IsCleaned g v (Marked b0) (Kept b0) → ((p : List ℕ) → Kept b p ↔ (Kept b0 p ⊎ IsEdgeAt g v p)) → IsQueueing b b.arena.vertices 0 c → IsAt g birth b0 b c
+at_start g v birth b0 b c grown marks lists cleaned formed s = record {
   grown = grown;
   fits = s.fits;
   held_long = λ p h. long p h;
@@ -152,7 +151,7 @@ at_start g v birth b0 b c graph grown marks lists cleaned formed s = record {
     )
 
     held_kept : (p : List ℕ) → HeldIn b c p → Kept b p
-    held_kept p h = (h.1, (held_at c b.arena s.fits h.0 h.1 h.2).0, h.3)
+    held_kept p h = (h.1, s.fits.live h.0 h.1 h.2, h.3)
 
     walks : (p : List ℕ) → Kept b p → IsWalk g p
     walks p k = elim ((formed p).0 k) [ inl old ↦ walk_back g v p ((cleaned.kept p).0 old).walk | inr edge ↦ edge.walk ]
@@ -187,7 +186,7 @@ at_start g v birth b0 b c graph grown marks lists cleaned formed s = record {
         d.pending (subst (IsMarked b) (grown.lawful.once m.0 d.id (grown.lawful.marked_live m.0 m.1) d.least.live (m.2 ∙ sym d.list)) m.1))
 
 -- no path of the next pair is held yet
-pub head_fresh : (b : Book) (x y : ℕ) (c : Classes) → IsQueueing b x y c → (w id : ℕ) → IsHeld c w id → HasEnds b.arena id x y → ⊥
+pub head_fresh : (b : Book) (x y : ℕ) (c : Classes) → IsQueueing b x y c → (r : Rank) (id : ℕ) → IsHeld c r id → HasEnds b.arena id x y → ⊥
 head_fresh b x y c s w id h ends =
     let d : IsHead b x y (list_of b.arena id) = s.held (list_of b.arena id) (w, id, h, refl) in
     let from : d.from ≡ x = same_end d.from x (sym d.least.ends.0 ∙ ap first d.list ∙ ends.0) in

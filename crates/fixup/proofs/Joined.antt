@@ -7,11 +7,11 @@ use Rattle.path_arena.specs.Arena.{Arena, path_at, list_of, IsLive, IsArena, no_
 use Rattle.path_arena.proofs.Paths.{live_path, path_of_at, live_apart}
 use Rattle.path_book.specs.Book.{Book, with_kept, IsLeastKept, KeepsNone}
 use Rattle.pair_heaps.specs.Heaps.{HasEnds}
-use Rattle.weight_classes.specs.Classes.{Classes, Fits, IsHeld, IsPushed}
+use Rattle.weight_classes.specs.Classes.{Classes, Rank, Fits, IsHeld, IsPushed}
 use Rattle.fixup_math.proofs.Counting.{head_in, tail_in}
 use Rattle.fixup.specs.Joining.{IsFormed, IsJoined, IsQueuedIfLeast}
 use Rattle.fixup.proofs.Views.{path_new, path_still}
-use Rattle.fixup.proofs.Held.{held_at, fits_there}
+use Rattle.fixup.proofs.Held.{fits_there}
 
 last_in : (p : List ℕ) (y : ℕ) → last p ≡ Some y → Contains p y
 last_in [] y e = cc
@@ -40,8 +40,8 @@ module _ (b : Book) (l r birth id : ℕ) (after : Book) (fresh : path_at b.arena
   pub fits_now : (c : Classes) → Fits c b.arena → Fits c after.arena
   fits_now c fits = subst (λ (a : Book). Fits c a.arena) (sym kept) (fits_there c b.arena (with_kept b id (joined_path b.arena l r birth)).arena refl (path_still b id (joined_path b.arena l r birth) fresh) fits)
 
-  pub not_held : (c : Classes) → Fits c b.arena → (w : ℕ) → IsHeld c w id → ⊥
-  not_held c fits w h = live_apart b.arena id id fresh (held_at c b.arena fits w id h).0 refl
+  pub not_held : (c : Classes) → Fits c b.arena → (r : Rank) → IsHeld c r id → ⊥
+  not_held c fits w h = live_apart b.arena id id fresh (fits.live w id h) refl
 
   module _ (x y : ℕ) (begins : first (list_of b.arena l) ≡ Some x) (ends : last (list_of b.arena r) ≡ Some y) where
     pub ends_now : HasEnds after.arena id x y

@@ -17,13 +17,13 @@ use Rattle.weight_classes.specs.Classes.{Classes, Fits}
 use Rattle.fixup_math.proofs.Counting.{in_cons, in_nil, head_in}
 use Rattle.fixup_math.proofs.Promotions.{IsJoin}
 use Rattle.fixup_math.proofs.Forming.{contains_push}
-use Rattle.fixup_math.proofs.Ranks.{ByWeight}
+use Rattle.fixup_math.proofs.Ranks.{ByWeightThenHops, weight_then_hops_is_rank}
 use Rattle.fixup_math.proofs.Winners.{join_is_not_kept}
 use Rattle.fixup_math.proofs.Partners.{IsLeftPartner, IsRightPartner, left_join, right_join, join_has_partner, left_is_not_right}
 use Rattle.fixup.specs.Joining.{IsFormed, IsJoined, IsQueuedIfLeast}
 use Rattle.fixup.proofs.Views.{mark_still}
 use Rattle.fixup.proofs.Growth.{id_weight}
-use Rattle.fixup.proofs.Promoting.{rank_of, todo, live_as, joined_form, promoting_ends}
+use Rattle.fixup.proofs.Promoting.{todo, live_as, joined_form, promoting_ends}
 use Rattle.fixup.specs.Views.{HeldIn, Kept, Marked, WonIn}
 use Rattle.fixup.specs.Growth.{IsBehind, IsBetween, IsGrown, IsInFront, IsJoining, IsPromoting, ListedIn}
 
@@ -164,7 +164,7 @@ module _ (g : Graph) (birth : ℕ) (b0 : Book) (cl : List ℕ) (w : ℕ) (rest :
   -- no join is kept that is not formed yet
   not_kept : (j : List ℕ) → IsJoin g (Marked before) (λ p. p ≡ lw) j → (Contains s.done j → ⊥) → Kept b j → ⊥
   not_kept j join new k = elim ((s.promoting.forming.kept j).0 k) [
-    | inl old ↦ join_is_not_kept g (ByWeight g) (rank_of g start.graph) (Marked b0) (Marked before) (Kept before) (HeldIn before held) (ListedIn before (w ∷ rest)) (WonIn held) cl start.inside lw (todo g birth b0 cl w rest before held start) j join old
+    | inl old ↦ join_is_not_kept g (ByWeightThenHops g) (weight_then_hops_is_rank g) (Marked b0) (Marked before) (Kept before) (HeldIn before held) (ListedIn before (w ∷ rest)) (WonIn held) cl start.inside lw (todo g birth b0 cl w rest before held start) j join old
     | inr formed ↦ new formed
   ]
 

@@ -1,9 +1,8 @@
 -- One winner is promoted, and its joins are formed one behind another.
-use Rattle.std.specs.Prelude.{◌≡◌, ◌≢◌, ℕ, ◌+◌, ◌*◌, ◌<◌, ◌≤◌, ◌⊎◌, ◌↔◌, false, List, [], ◌∷◌, ◌++◌, length, Option, Some, None, is_some, unwrap_or, slice_index_or, refl, Contains}
+use Rattle.std.specs.Prelude.{◌≡◌, ◌≢◌, ℕ, ◌+◌, ◌*◌, ◌<◌, ◌≤◌, ◌⊎◌, ◌↔◌, false, List, [], ◌∷◌, ◌++◌, length, Some, None, is_some, unwrap_or, slice_index_or, refl, Contains}
 use Rattle.std.specs.FinSet as set
 use Rattle.std.proofs.Common.{sym, ◌∙◌, ap, subst, arith, inl, inr}
-use Rattle.std.proofs.lemmas.Bool.{true≢false, cases_lt}
-use Rattle.apsp_model.specs.Graph.{Graph, IsGraph, HasEdge, weight_at, edge_weight}
+use Rattle.apsp_model.specs.Graph.{Graph}
 use Rattle.apsp_model.specs.Least.{IsLeast}
 use Rattle.apsp_model.specs.Walk.{IsWalk, IsWalkFrom, weight_of, first, last}
 use Rattle.apsp_model.specs.Order.{path_cmp}
@@ -16,14 +15,14 @@ use Rattle.weight_classes.specs.Classes.{Classes, Fits, IsPushed, IsWon}
 use Rattle.fixup_math.proofs.Promotions.{IsJoin}
 use Rattle.fixup_math.proofs.Counting.{in_cons, in_nil, head_in, tail_in}
 use Rattle.fixup_math.proofs.Settling.{apart_by_simple}
-use Rattle.fixup_math.proofs.Ranks.{IsRank, ByWeight, weight_is_rank}
+use Rattle.fixup_math.proofs.Ranks.{IsRank, ByWeightThenHops, weight_then_hops_is_rank}
 use Rattle.fixup_math.proofs.Firsts.{IsLeastKept as IsLeastKeptOf}
 use Rattle.fixup_math.proofs.Forming.{IsForming, forming_starts, forms_pushed, forms_unpushed, contains_push}
 use Rattle.fixup_math.proofs.Winners.{IsInClass, join_is_above, join_is_not_marked, queued_then, winner_done}
 use Rattle.fixup.specs.Joining.{IsQueuedIfLeast}
 use Rattle.fixup.proofs.Views.{kept_with, held_with, marked_then, mark_cases, path_new, path_other, path_still, list_still}
 use Rattle.fixup.proofs.Growth.{grown_with, grown_mark, id_weight}
-use Rattle.fixup.proofs.Held.{held_at, held_pushed}
+use Rattle.fixup.proofs.Held.{held_pushed}
 use Rattle.fixup.specs.Views.{HeldIn, Kept, Marked, WonIn}
 use Rattle.fixup.specs.Growth.{IsBetween, IsGrown, IsPromoting, ListedIn}
 
@@ -94,17 +93,6 @@ in_class_same g UpTo H0 H H1 K Q Todo Todo1 Won Won1 c marks todos wons s = reco
 
 -- ---- one winner
 
--- every edge weighs something
-pub positive_of : (g : Graph) → IsGraph g → (a b : ℕ) → HasEdge g a b → 1 ≤ edge_weight g a b
-positive_of g graph a b edge = some a b (weight_at g a b) refl edge
-  where
-    some : (a b : ℕ) (o : Option ℕ) → weight_at g a b ≡ o → HasEdge g a b → 1 ≤ unwrap_or (weight_at g a b) 0
-    some a b None e edge = absurd (true≢false (sym edge ∙ ap is_some e))
-    some a b (Some w) e edge = let l : 1 ≤ w = (graph.edges a b w e).least in let is : unwrap_or (weight_at g a b) 0 ≡ w = ap (λ o. unwrap_or o 0) e in omega arith
-
-pub rank_of : (g : Graph) → IsGraph g → IsRank g (ByWeight g)
-rank_of g graph = weight_is_rank g (positive_of g graph)
-
 module _ (g : Graph) (birth : ℕ) (b0 : Book) (cl : List ℕ) (w : ℕ) (rest : List ℕ) (before : Book) (held : Classes) where
   -- the path of the winner
   abbrev pub winner : List ℕ
@@ -118,8 +106,8 @@ module _ (g : Graph) (birth : ℕ) (b0 : Book) (cl : List ℕ) (w : ℕ) (rest :
     pub todo : ListedIn before (w ∷ rest) winner
     todo = (w, head_in w w rest refl, refl)
 
-    rank : IsRank g (ByWeight g)
-    rank = rank_of g start.graph
+    rank : IsRank g (ByWeightThenHops g)
+    rank = weight_then_hops_is_rank g
 
     pub promoting_starts : IsBook (with_mark before w) → IsPromoting g birth b0 cl w rest before held [] (with_mark before w) held
     promoting_starts lawful = record {
@@ -132,11 +120,11 @@ module _ (g : Graph) (birth : ℕ) (b0 : Book) (cl : List ℕ) (w : ℕ) (rest :
       vertices = refl;
       joins = λ p c. absurd (in_nil p c);
       forming = forming_starts g Promoted (Kept before) (HeldIn before held) (WonIn held)
-          (queued_then g (ByWeight g) rank (Marked b0) (Marked before) (Kept before) (HeldIn before held) (ListedIn before (w ∷ rest)) (WonIn held) cl start.inside winner todo Promoted (λ p. (λ h. h, λ h. h)));
+          (queued_then g (ByWeightThenHops g) rank (Marked b0) (Marked before) (Kept before) (HeldIn before held) (ListedIn before (w ∷ rest)) (WonIn held) cl start.inside winner todo Promoted (λ p. (λ h. h, λ h. h)));
     }
 
   module _ (done : List (List ℕ)) (b : Book) (c : Classes) (s : IsPromoting g birth b0 cl w rest before held done b c) where
-    inside : IsInClass g (ByWeight g) (Marked b0) (Marked before) (Kept before) (HeldIn before held) (ListedIn before (w ∷ rest)) (WonIn held) cl
+    inside : IsInClass g (ByWeightThenHops g) (Marked b0) (Marked before) (Kept before) (HeldIn before held) (ListedIn before (w ∷ rest)) (WonIn held) cl
     inside = s.start.inside
 
     pub list_as : (id : ℕ) → IsLive before.arena id → list_of b.arena id ≡ list_of before.arena id
@@ -191,7 +179,7 @@ module _ (g : Graph) (birth : ℕ) (b0 : Book) (cl : List ℕ) (w : ℕ) (rest :
           walk_now = record { walk = join.walk; from = ap first (sym list_now) ∙ ends.0; to = ap last (sym list_now) ∙ ends.1 }
 
           held_same : (p : List ℕ) → HeldIn (with_kept b id q) c p ↔ HeldIn b c p
-          held_same = held_with b id q fresh c (λ v k h. (held_at c b.arena s.fits v k h).0)
+          held_same = held_with b id q fresh c (λ r k h. s.fits.live r k h)
 
           walks_now : (p : List ℕ) → Kept (with_kept b id q) p → IsWalk g p
           walks_now p k = elim ((kept_with b id q fresh p).0 k) [ inl old ↦ walks p old | inr new ↦ subst (IsWalk g) (sym new) join.walk ]
@@ -204,7 +192,7 @@ module _ (g : Graph) (birth : ℕ) (b0 : Book) (cl : List ℕ) (w : ℕ) (rest :
               ))
               (subst (IsLeastKeptOf g (Kept (with_kept b id q)) x y) list_now (least_kept g birth b0 (with_kept b id q) grown_now walks_now x y id least))
               (λ p h. (kept_with b id q fresh p).1 (inl (marked_kept_now p h)))
-              (join_is_not_marked g (ByWeight g) (rank s.start) (Marked b0) (Marked before) (Kept before) (HeldIn before held) (ListedIn before (w ∷ rest)) (WonIn held) cl inside winner (todo s.start) Promoted (λ p. (λ h. h, λ h. h)) q.list join)
+              (join_is_not_marked g (ByWeightThenHops g) (rank s.start) (Marked b0) (Marked before) (Kept before) (HeldIn before held) (ListedIn before (w ∷ rest)) (WonIn held) cl inside winner (todo s.start) Promoted (λ p. (λ h. h, λ h. h)) q.list join)
 
           without_push : (k : ℕ) → k ≢ id → IsLeastKept (with_kept b id q) x y k → later ≡ c → IsForming g Promoted (Kept before) (HeldIn before held) (WonIn held) (done ++ q.list ∷ []) (Kept (with_kept b id q)) (HeldIn (with_kept b id q) later)
           without_push k apart least same =
@@ -225,19 +213,15 @@ module _ (g : Graph) (birth : ℕ) (b0 : Book) (cl : List ℕ) (w : ℕ) (rest :
     -- once all of its joins are formed the class goes on
     pub promoting_ends : ((p : List ℕ) → IsJoin g (Marked before) (λ q. q ≡ winner) p → Contains done p) → (Contains rest w → ⊥) → IsBetween g birth b0 cl rest b c
     promoting_ends all once = record {
-      graph = s.start.graph;
       grown = s.grown;
       fits = s.fits;
       todo_live = λ v h. live_as v (s.start.todo_live v (tail_in v w rest h));
       held_long = λ p h. elim (s.forming.held p h) [ inl old ↦ s.start.held_long p old | inr new ↦ let l : 3 ≤ length p = (s.joins p new).long in omega arith ];
       above = λ p h. elim (s.forming.held p h) [
         | inl old ↦ s.start.above p old
-        | inr new ↦ elim (cases_lt (weight_of g cl) (weight_of g p)) [
-          | inl more ↦ more
-          | inr less ↦ absurd (join_is_above g (ByWeight g) (rank s.start) (Marked b0) (Marked before) (Kept before) (HeldIn before held) (ListedIn before (w ∷ rest)) (WonIn held) cl inside winner (todo s.start) p (s.joins p new) less)
-        ]
+        | inr new ↦ join_is_above g (ByWeightThenHops g) (rank s.start) (Marked b0) (Marked before) (Kept before) (HeldIn before held) (ListedIn before (w ∷ rest)) (WonIn held) cl inside winner (todo s.start) p (s.joins p new)
       ];
-      inside = in_class_same g (ByWeight g) (Marked b0) Promoted (Marked b) (Kept b) (HeldIn b c) (λ p. ListedIn before (w ∷ rest) p × (p ≡ winner → ⊥)) (ListedIn b rest) (WonIn held) (WonIn c) cl marks_are
+      inside = in_class_same g (ByWeightThenHops g) (Marked b0) Promoted (Marked b) (Kept b) (HeldIn b c) (λ p. ListedIn before (w ∷ rest) p × (p ≡ winner → ⊥)) (ListedIn b rest) (WonIn held) (WonIn c) cl marks_are
           (λ p. (
             λ h. let live : IsLive before.arena h.0 = s.start.todo_live h.0 (tail_in h.0 w rest h.1) in
                 ((h.0, tail_in h.0 w rest h.1, sym (list_as h.0 live) ∙ h.2), λ same. once (subst (Contains rest) (s.start.grown.lawful.once h.0 w live winner_live (sym (list_as h.0 live) ∙ h.2 ∙ same)) h.1)),
@@ -250,7 +234,7 @@ module _ (g : Graph) (birth : ℕ) (b0 : Book) (cl : List ℕ) (w : ℕ) (rest :
             λ h. (subst (λ n. x < n) s.vertices h.0, subst (λ n. y < n) s.vertices h.1, won_same x y c held s.won s.vertices h.2),
             λ h. (subst (λ n. x < n) (sym s.vertices) h.0, subst (λ n. y < n) (sym s.vertices) h.1, won_same x y held c (sym s.won) (sym s.vertices) h.2),
           ))
-          (winner_done g (ByWeight g) (rank s.start) (Marked b0) (Marked before) (Kept before) (HeldIn before held) (ListedIn before (w ∷ rest)) (WonIn held) cl inside winner (todo s.start) Promoted (λ p. (λ h. h, λ h. h)) done (λ p. (s.joins p, all p)) (Kept b) (HeldIn b c) s.forming);
+          (winner_done g (ByWeightThenHops g) (rank s.start) (Marked b0) (Marked before) (Kept before) (HeldIn before held) (ListedIn before (w ∷ rest)) (WonIn held) cl inside winner (todo s.start) Promoted (λ p. (λ h. h, λ h. h)) done (λ p. (s.joins p, all p)) (Kept b) (HeldIn b c) s.forming);
     }
       where
         won_same : (x y : ℕ) (d e : Classes) → d.won ≡ e.won → d.vertices ≡ e.vertices → IsWon d x y → IsWon e x y

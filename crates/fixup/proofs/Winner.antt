@@ -28,7 +28,7 @@ same_id : (x y : ℕ) → Some x ≡ Some y → x ≡ y
 same_id x y e = cc
 
 module _ (birth w : ℕ) (before : Book) (held : Classes) (s : Stage) (h : IsBetweenAt s birth (w ∷ s.rest) before held) where
-  w_live : IsLive before.arena w
+  pub w_live : IsLive before.arena w
   w_live = h.todo_live w (head_in w w s.rest refl)
 
   pub pending : IsMarked before w → ⊥

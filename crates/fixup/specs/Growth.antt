@@ -1,13 +1,13 @@
 -- What a settling has done to a book by now.
 use Rattle.std.specs.Prelude.{◌≡◌, ◌≢◌, ℕ, ◌<◌, ◌⊎◌, ◌↔◌, List, [], ◌∷◌, ◌++◌, length, Some, None, option_to_list, Contains}
-use Rattle.apsp_model.specs.Graph.{Graph, IsGraph, HasEdge}
+use Rattle.apsp_model.specs.Graph.{Graph, HasEdge}
 use Rattle.apsp_model.specs.Walk.{weight_of, first, last}
 use Rattle.path_arena.specs.Arena.{Path, path_at, list_of, left_of, right_of, IsLive, HasAnEdge}
 use Rattle.path_book.specs.Book.{Book, IsMarked, IsBook, with_mark, IsLeastKept, KeepsNone}
-use Rattle.weight_classes.specs.Classes.{Classes, Fits, IsHeld}
+use Rattle.weight_classes.specs.Classes.{Classes, Rank, Fits, IsHeld}
 use Rattle.fixup_math.proofs.Forming.{IsForming}
 use Rattle.fixup_math.proofs.Promotions.{IsJoin}
-use Rattle.fixup_math.proofs.Ranks.{ByWeight}
+use Rattle.fixup_math.proofs.Ranks.{ByWeightThenHops}
 use Rattle.fixup_math.proofs.Settling.{IsSettling}
 use Rattle.fixup_math.proofs.Winners.{IsInClass}
 use Rattle.fixup.specs.Views.{Kept, Marked, HeldIn, WonIn}
@@ -58,7 +58,6 @@ pub record IsQueueing (b : Book) (x y : ℕ) (c : Classes) : Type 0 where
 
 -- what holds of a settling before each class, where the book was b0 at its start
 pub record IsAt (g : Graph) (birth : ℕ) (b0 b : Book) (c : Classes) : Type 0 where
-  pub graph : IsGraph g
   pub grown : IsGrown g birth b0 b
   pub fits : Fits c b.arena
   pub held_long : (p : List ℕ) → HeldIn b c p → 1 < length p
@@ -68,7 +67,7 @@ pub record IsAt (g : Graph) (birth : ℕ) (b0 b : Book) (c : Classes) : Type 0 w
 pub record IsOver (g : Graph) (birth : ℕ) (b0 b : Book) : Type 0 where
   pub classes : Classes
   pub at : IsAt g birth b0 b classes
-  pub empty : (w id : ℕ) → IsHeld classes w id → ⊥
+  pub empty : (r : Rank) (id : ℕ) → IsHeld classes r id → ⊥
 
 -- the lists of these ids
 abbrev pub ListedIn : Book → List ℕ → List ℕ → Type 0
@@ -76,13 +75,12 @@ ListedIn b ids p = (w : ℕ) × Contains ids w × (list_of b.arena w ≡ p)
 
 -- between two winners of the class of cl: these ids are still to be promoted
 pub record IsBetween (g : Graph) (birth : ℕ) (b0 : Book) (cl : List ℕ) (todo : List ℕ) (b : Book) (c : Classes) : Type 0 where
-  pub graph : IsGraph g
   pub grown : IsGrown g birth b0 b
   pub fits : Fits c b.arena
   pub todo_live : (w : ℕ) → Contains todo w → IsLive b.arena w
   pub held_long : (p : List ℕ) → HeldIn b c p → 1 < length p
-  pub above : (p : List ℕ) → HeldIn b c p → weight_of g cl < weight_of g p
-  pub inside : IsInClass g (ByWeight g) (Marked b0) (Marked b) (Kept b) (HeldIn b c) (ListedIn b todo) (WonIn c) cl
+  pub above : (p : List ℕ) → HeldIn b c p → ByWeightThenHops g p cl → ⊥
+  pub inside : IsInClass g (ByWeightThenHops g) (Marked b0) (Marked b) (Kept b) (HeldIn b c) (ListedIn b todo) (WonIn c) cl
 
 -- the winner w is promoted where the book was `before` and the classes held `held`; these joins of it are formed by now
 pub record IsPromoting (g : Graph) (birth : ℕ) (b0 : Book) (cl : List ℕ) (w : ℕ) (rest : List ℕ) (before : Book) (held : Classes) (done : List (List ℕ)) (b : Book) (c : Classes) : Type 0 where

@@ -5,7 +5,7 @@ ghost use Rattle.apsp_model.specs.Graph.{weight_at};
 ghost use Rattle.apsp_model.specs.Settled.{IsReady};
 ghost use Rattle.pair_heaps.specs.Heaps.{HasEnds};
 ghost use Rattle.path_book.specs.Book.{IsBook, IsNewList, kept_paths};
-ghost use Rattle.weight_classes.specs.Classes.{Fits, IsHeld};
+ghost use Rattle.weight_classes.specs.Classes.{Fits, IsHeld, Rank};
 ghost use Rattle.fixup.specs.Starts.{IsEdgeFormed, IsHeadHeld};
 ghost use Rattle.fixup.specs.Growth.{IsEdging, IsQueueing};
 
@@ -80,7 +80,7 @@ fn queue_head(book: &mut Book, classes: &mut Classes, x: u32, y: u32) -> Result<
     requires from { x < book.old.arena.vertices }
     requires to { y < book.old.arena.vertices }
     requires fits { Fits classes.old book.old.arena }
-    requires fresh { (w id : ℕ) → IsHeld classes.old w id → HasEnds book.old.arena id x y → ⊥ }
+    requires fresh { (r : Rank) (id : ℕ) → IsHeld classes.old r id → HasEnds book.old.arena id x y → ⊥ }
     ensures same { book.new ≡ book.old }
     ensures held { OnOk result (IsHeadHeld book.old x y classes.old classes.new) }
     ensures fits { Fits classes.new book.old.arena }

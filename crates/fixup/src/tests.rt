@@ -115,3 +115,28 @@ fn of_two_ways_one_is_historical(rt: HostRuntime) -> Result<(), Fail> {
     assert_eq!(rt; book.birth_of(&[0, 2, 3]), Some(2));
     Ok(())
 }
+
+/// Ways of one weight from 0 to 2, with one edge and with two: the one edge is historical, and the
+/// other way is kept. The way of that weight from 0 to 3, with two edges, is historical too.
+#[test]
+fn of_one_weight_fewer_edges_come_first(rt: HostRuntime) -> Result<(), Fail> {
+    let (mut graph, mut book) = opening(rt.alloc(), 4)?;
+    let mut middle = Star::new(rt.alloc(), 4, 1)?;
+    middle.set_out(2, 1)?;
+    middle.set_out(3, 1)?;
+    let first = settle_star(&rt, rt.alloc(), &mut book, &mut graph, &middle, 1)?;
+    assert_eq!(rt; (first.formed, first.promoted), (2, 2));
+    let mut start = Star::new(rt.alloc(), 4, 0)?;
+    start.set_out(1, 1)?;
+    start.set_out(2, 2)?;
+    let second = settle_star(&rt, rt.alloc(), &mut book, &mut graph, &start, 2)?;
+    assert_eq!(rt; (second.formed, second.promoted), (4, 3));
+    assert_eq!(rt; (book.count_paths(), book.count_historical()), (6, 5));
+    assert_eq!(rt; book.birth_of(&[0, 1, 2]), Some(2));
+    assert_eq!(rt; book.birth_of(&[0, 1, 3]), Some(2));
+    let Some(least) = book.least(0, 2) else {
+        return Err(Fail::from("no path from 0 to 2 is kept"));
+    };
+    assert_eq!(rt; (book.arena().hops(least), book.is_historical(least)), (1, true));
+    Ok(())
+}

@@ -1,202 +1,213 @@
--- The held ids by weight, when one more is held, and when an arena fits.
-use Rattle.std.specs.Prelude.{◌≡◌, ◌≢◌, ℕ, ◌+◌, ◌<◌, ◌≤◌, ◌⊎◌, true, false, cond, List, [], ◌∷◌, ◌++◌, length, Some, None, refl, Contains, Result, Ok, Err, OnOk, OnErr}
-use Rattle.std.specs.Map.{lookup, set_value}
-use Rattle.std.specs.Ordering.{nat_cmp, is_eq, match_ordering}
-use Rattle.std.specs.BTreeMap.{is_at, insert_entry}
-use Rattle.std.specs.declared.cmp.Ordering.{Ordering}
-use Rattle.std.specs.declared.cmp.Ordering.TheVariants.{Less, Equal, Greater}
-use Rattle.std.proofs.Common.{sym, ◌∙◌, ap, subst, arith, inl, inr}
-use Rattle.std.proofs.lemmas.Bool.{true≢false}
-use Rattle.std.proofs.lemmas.Cmp.{ranked}
-use Rattle.std.proofs.lemmas.List.{length_push}
-use Rattle.std.proofs.lemmas.List.Elements.{Contains-append_left, Contains-push, Contains-push_cases}
-use Rattle.smallvec.specs.SmallVec.{SmallVec}
-use Rattle.path_arena.specs.Arena.{Arena, IsLive, weight_of}
-use Rattle.weight_classes.specs.Classes.{Classes, HoldsAt, IsBucket, AreBuckets, AgreeOnHeld, Fits, count_held}
-use Rattle.weight_classes.specs.Inside.{held_in, AreRoomy, IsHeldMore}
+-- The ids that buckets hold, when one has one id more or gives its ids away.
+use Rattle.std.specs.Prelude.{◌≡◌, ℕ, zero, suc, ◌<◌, ◌⊎◌, ◌↔◌, List, [], ◌∷◌, ◌++◌, length, slice_set, refl, Contains}
+use Rattle.std.specs.List.Sorted.{IsPermutation}
+use Rattle.std.proofs.Common.{sym, ◌∙◌, ap, subst, arith, inl, inr, get_or}
+use Rattle.std.proofs.lemmas.List.{append_assoc, map-append, map-set, get_or-map, set-get_or, nil_from_length}
+use Rattle.std.proofs.lemmas.List.Sorted.{IsPermutation-refl, IsPermutation-sym, IsPermutation-trans, IsPermutation-cons, IsPermutation-append_left, IsPermutation-append_right, IsPermutation-append_comm, Contains-permutation}
+use Rattle.std.proofs.lemmas.List.Elements.{Contains-append_left, Contains-append_right, Contains-append_cases}
+use Rattle.path_arena.specs.Arena.{Arena, IsLive}
+use Rattle.weight_classes.specs.declared.buckets.Bucket.{Bucket}
+use Rattle.weight_classes.specs.Classes.{Classes, Rank, IsHeld, IsPushed, IsPopped, Fits, AgreeOnHeld, ranked, rank_of}
+use Rattle.weight_classes.specs.Inside.{rank_in, ranks_in, nexts_in, idss_in, rank_at, ids_at, no_rank, held_by}
 
--- whether a key is the one that is sought
-key_or_not : (key k : ℕ) → ((is_at (nat_cmp key) k ≡ true) × (key ≡ k)) ⊎ ((is_at (nat_cmp key) k ≡ false) × (key ≢ k))
-key_or_not key k = go (nat_cmp key k) refl
+-- ---- lists
+
+pub in_cons : {X : Type 0} (x : X) (xs : List X) (y : X) → Contains (x ∷ xs) y → (x ≡ y) ⊎ Contains xs y
+in_cons x xs y c = elim (Contains-append_cases (x ∷ []) xs y c) [ inl here ↦ inl (only here) | inr more ↦ inr more ]
   where
-    go : (o : Ordering) → o ≡ nat_cmp key k → ((is_at (nat_cmp key) k ≡ true) × (key ≡ k)) ⊎ ((is_at (nat_cmp key) k ≡ false) × (key ≢ k))
-    go Less e = let less : key < k = ranked key k Less e in inr (ap is_eq (sym e), λ same. omega arith)
-    go Equal e = inl (ap is_eq (sym e), ranked key k Equal e)
-    go Greater e = let more : k < key = ranked key k Greater e in inr (ap is_eq (sym e), λ same. omega arith)
+    only : Contains (x ∷ []) y → x ≡ y
+    only (zero, inside, at) = at
+    only (suc k, inside, at) = absurd (omega (arith, inside))
 
-bucket_more : (a : Arena) (w id : ℕ) (ids : List ℕ) → IsLive a id → weight_of a id ≡ w → IsBucket a w ids → IsBucket a w (ids ++ id ∷ [])
-bucket_more a w id ids live weight b = record {
-  some = omega (arith, length_push ids id);
-  live = λ q c. elim (Contains-push_cases ids id q c) [ inl old ↦ b.live q old | inr same ↦ subst (IsLive a) same live ];
-  weight = λ q c. elim (Contains-push_cases ids id q c) [ inl old ↦ b.weight q old | inr same ↦ subst (λ r. weight_of a r ≡ w) same weight ];
-}
+pub head_there : {X : Type 0} (x : X) (xs : List X) → Contains (x ∷ xs) x
+head_there x xs = (0, omega arith, refl)
 
-bucket_one : (a : Arena) (w id : ℕ) → IsLive a id → weight_of a id ≡ w → IsBucket a w (id ∷ [])
-bucket_one a w id live weight = record {
-  some = omega arith;
-  live = λ q c. elim (Contains-push_cases [] id q c) [ inl old ↦ absurd (omega (arith, old.1)) | inr same ↦ subst (IsLive a) same live ];
-  weight = λ q c. elim (Contains-push_cases [] id q c) [ inl old ↦ absurd (omega (arith, old.1)) | inr same ↦ subst (λ r. weight_of a r ≡ w) same weight ];
-}
+pub tail_there : {X : Type 0} (x : X) (xs : List X) (y : X) → Contains xs y → Contains (x ∷ xs) y
+tail_there x xs y c = Contains-append_right (x ∷ []) xs y c
 
-in_tail : (e : ℕ × SmallVec ℕ) (es fs : List (ℕ × SmallVec ℕ)) (key id : ℕ) → IsHeldMore es fs key id → IsHeldMore (e ∷ es) (e ∷ fs) key id
-in_tail e es fs key id m = record {
-  held = λ w q. (
-    λ h. elim h [ inl now ↦ inl (inl now) | inr later ↦ elim ((m.held w q).0 later) [ inl old ↦ inl (inr old) | inr new ↦ inr new ] ],
-    λ h. elim h [ inl old ↦ elim old [ inl now ↦ inl now | inr later ↦ inr ((m.held w q).1 (inl later)) ] | inr new ↦ inr ((m.held w q).1 (inr new)) ],
-  );
-  count = let c : count_held (held_in fs) ≡ count_held (held_in es) + 1 = m.count in omega arith;
-  buckets = λ a live weight h. (h.0, m.buckets a live weight h.1);
-}
+same_list : {X : Type 0} (xs ys : List X) → xs ≡ ys → IsPermutation xs ys
+same_list xs ys e = subst (IsPermutation xs) e (IsPermutation-refl xs)
 
-at_head : (k : ℕ) (x : SmallVec ℕ) (es : List (ℕ × SmallVec ℕ)) (key id : ℕ) (v : SmallVec ℕ) → key ≡ k → v.items ≡ x.items ++ id ∷ [] → IsHeldMore ((k, x) ∷ es) ((k, v) ∷ es) key id
-at_head k x es key id v same is = record {
-  held = λ w q. (
-    λ h. elim h [
-      | inl now ↦ elim (Contains-push_cases x.items id q (subst (λ xs. Contains xs q) is now.1)) [ inl old ↦ inl (inl (now.0, old)) | inr new ↦ inr (sym now.0 ∙ sym same, sym new) ]
-      | inr later ↦ inl (inr later)
-    ],
-    λ h. elim h [
-      | inl old ↦ elim old [ inl now ↦ inl (now.0, subst (λ xs. Contains xs q) (sym is) (Contains-append_left x.items (id ∷ []) q now.1)) | inr later ↦ inr later ]
-      | inr new ↦ inl (sym same ∙ sym new.0, subst (λ xs. Contains xs q) (sym is) (subst (λ r. Contains (x.items ++ id ∷ []) r) (sym new.1) (Contains-push x.items id)))
-    ],
-  );
-  count = omega (arith, ap length is, length_push x.items id);
-  buckets = λ a live weight h. (subst (IsBucket a k) (sym is) (bucket_more a k id x.items live (weight ∙ same) h.0), h.1);
-}
+swap_front : {X : Type 0} (xs ys zs : List X) → IsPermutation (xs ++ (ys ++ zs)) (ys ++ (xs ++ zs))
+swap_front xs ys zs =
+    subst (λ ls. IsPermutation ls (ys ++ (xs ++ zs))) (append_assoc xs ys zs)
+    (subst (IsPermutation ((xs ++ ys) ++ zs)) (append_assoc ys xs zs) (IsPermutation-append_left zs (xs ++ ys) (ys ++ xs) (IsPermutation-append_comm xs ys)))
 
--- ---- one more id in a bucket that is there
+pub same_rank : (r s : Rank) → r.weight ≡ s.weight → r.hops ≡ s.hops → r ≡ s
+same_rank r s w h = ap (λ (k : ℕ). let t : Rank = record { weight = k; hops = r.hops } in t) w ∙ ap (λ (k : ℕ). let t : Rank = record { weight = s.weight; hops = k } in t) h
 
--- where no entry is added, the value at the key is set
-insert_there : (es : List (ℕ × SmallVec ℕ)) (key : ℕ) (v : SmallVec ℕ) → length (insert_entry nat_cmp es key v) ≡ length es → insert_entry nat_cmp es key v ≡ set_value (is_at (nat_cmp key)) es v
-insert_there [] key v long = absurd (omega (arith, long))
-insert_there (e ∷ es) key v long = go (nat_cmp key e.0) long (insert_there es key v)
-  where
-    go : (o : Ordering) → length (match_ordering o ((key, v) ∷ e ∷ es) ((e.0, v) ∷ es) (e ∷ insert_entry nat_cmp es key v)) ≡ length (e ∷ es)
-        → (length (insert_entry nat_cmp es key v) ≡ length es → insert_entry nat_cmp es key v ≡ set_value (is_at (nat_cmp key)) es v)
-        → match_ordering o ((key, v) ∷ e ∷ es) ((e.0, v) ∷ es) (e ∷ insert_entry nat_cmp es key v) ≡ cond (is_eq o) ((e.0, v) ∷ es) (e ∷ set_value (is_at (nat_cmp key)) es v)
-    go Less grown rest = absurd (omega (arith, grown))
-    go Equal grown rest = refl
-    go Greater grown rest = ap (λ (fs : List (ℕ × SmallVec ℕ)). e ∷ fs) (rest (omega (arith, grown)))
+-- ---- the ids of a bucket and those of the others
 
-more_at : (es : List (ℕ × SmallVec ℕ)) (key id : ℕ) (x v : SmallVec ℕ) → lookup (is_at (nat_cmp key)) es ≡ Some x → v.items ≡ x.items ++ id ∷ [] → IsHeldMore es (set_value (is_at (nat_cmp key)) es v) key id
-more_at [] key id x v found is = cc
-more_at (e ∷ es) key id x v found is = elim (key_or_not key e.0) [
-  | inl here ↦
-      let here_x : Some e.1 ≡ Some x = sym (ap (λ b. cond b (Some e.1) (lookup (is_at (nat_cmp key)) es)) here.0) ∙ found in
-      let same : e.1 ≡ x = cc in
-      subst (λ (fs : List (ℕ × SmallVec ℕ)). IsHeldMore (e ∷ es) fs key id) (sym (ap (λ b. cond b ((e.0, v) ∷ es) (e ∷ set_value (is_at (nat_cmp key)) es v)) here.0))
-      (at_head e.0 e.1 es key id v here.1 (is ∙ ap (λ (y : SmallVec ℕ). y.items ++ id ∷ []) (sym same)))
-  | inr other ↦
-      subst (λ (fs : List (ℕ × SmallVec ℕ)). IsHeldMore (e ∷ es) fs key id) (sym (ap (λ b. cond b ((e.0, v) ∷ es) (e ∷ set_value (is_at (nat_cmp key)) es v)) other.0))
-      (in_tail e es (set_value (is_at (nat_cmp key)) es v) key id (more_at es key id x v (sym (ap (λ b. cond b (Some e.1) (lookup (is_at (nat_cmp key)) es)) other.0) ∙ found) is))
+pub record IsSplit (rs : List Rank) (idss : List (List ℕ)) (i : ℕ) : Type 0 where
+  pub others : List (Rank × ℕ)
+  pub with_ids : (ids : List ℕ) → IsPermutation (held_by rs (slice_set idss i ids)) (ranked (rank_at rs i) ids ++ others)
+
+pub split_at : (rs : List Rank) (idss : List (List ℕ)) (i : ℕ) → i < length rs → length idss ≡ length rs → IsSplit rs idss i
+split_at [] idss i inside many = absurd (omega (arith, inside))
+split_at (r ∷ rs) [] i inside many = absurd (omega (arith, many))
+split_at (r ∷ rs) (ids ∷ idss) zero inside many = record { others = held_by rs idss; with_ids = λ new. IsPermutation-refl (ranked r new ++ held_by rs idss) }
+split_at (r ∷ rs) (ids ∷ idss) (suc i) inside many =
+    let s : IsSplit rs idss i = split_at rs idss i (omega (arith, inside)) (omega (arith, many)) in
+    record {
+      others = ranked r ids ++ s.others;
+      with_ids = λ new. IsPermutation-trans (ranked r ids ++ held_by rs (slice_set idss i new)) (ranked r ids ++ (ranked (rank_at rs i) new ++ s.others)) (ranked (rank_at rs i) new ++ (ranked r ids ++ s.others))
+          (IsPermutation-append_right (ranked r ids) (held_by rs (slice_set idss i new)) (ranked (rank_at rs i) new ++ s.others) (s.with_ids new))
+          (swap_front (ranked r ids) (ranked (rank_at rs i) new) s.others);
+    }
+
+module _ (rs : List Rank) (idss : List (List ℕ)) (i : ℕ) (inside : i < length rs) (many : length idss ≡ length rs) where
+  split : IsSplit rs idss i
+  split = split_at rs idss i inside many
+
+  as_before : IsPermutation (held_by rs idss) (ranked (rank_at rs i) (ids_at idss i) ++ split.others)
+  as_before = subst (λ js. IsPermutation (held_by rs js) (ranked (rank_at rs i) (ids_at idss i) ++ split.others)) (set-get_or idss i []) (split.with_ids (ids_at idss i))
+
+  pub held_more : (id : ℕ) → IsPermutation ((rank_at rs i, id) ∷ held_by rs idss) (held_by rs (slice_set idss i (ids_at idss i ++ id ∷ [])))
+  held_more id =
+      let r : Rank = rank_at rs i in
+      let old : List (Rank × ℕ) = ranked r (ids_at idss i) in
+      let one : List (Rank × ℕ) = (r, id) ∷ [] in
+      let now : IsPermutation (held_by rs (slice_set idss i (ids_at idss i ++ id ∷ []))) ((old ++ one) ++ split.others) = subst (λ ls. IsPermutation (held_by rs (slice_set idss i (ids_at idss i ++ id ∷ []))) (ls ++ split.others)) (map-append (λ (q : ℕ). let p : Rank × ℕ = (r, q) in p) (ids_at idss i) (id ∷ [])) (split.with_ids (ids_at idss i ++ id ∷ [])) in
+      let front : IsPermutation ((old ++ one) ++ split.others) ((one ++ old) ++ split.others) = IsPermutation-append_left split.others (old ++ one) (one ++ old) (IsPermutation-append_comm old one) in
+      let before : IsPermutation ((r, id) ∷ held_by rs idss) ((r, id) ∷ (old ++ split.others)) = IsPermutation-cons (r, id) (held_by rs idss) (old ++ split.others) as_before in
+      IsPermutation-trans ((r, id) ∷ held_by rs idss) ((r, id) ∷ (old ++ split.others)) (held_by rs (slice_set idss i (ids_at idss i ++ id ∷ []))) before
+      (IsPermutation-sym (held_by rs (slice_set idss i (ids_at idss i ++ id ∷ []))) ((r, id) ∷ (old ++ split.others))
+      (IsPermutation-trans (held_by rs (slice_set idss i (ids_at idss i ++ id ∷ []))) ((old ++ one) ++ split.others) ((r, id) ∷ (old ++ split.others)) now front))
+
+  pub held_less : IsPermutation (held_by rs idss) (ranked (rank_at rs i) (ids_at idss i) ++ held_by rs (slice_set idss i []))
+  held_less =
+      let r : Rank = rank_at rs i in
+      IsPermutation-trans (held_by rs idss) (ranked r (ids_at idss i) ++ split.others) (ranked r (ids_at idss i) ++ held_by rs (slice_set idss i [])) as_before
+      (IsPermutation-append_right (ranked r (ids_at idss i)) split.others (held_by rs (slice_set idss i [])) (IsPermutation-sym (held_by rs (slice_set idss i [])) split.others (split.with_ids [])))
+
+-- ---- what is held, by the buckets
+
+in_ranked : (r : Rank) (ids : List ℕ) (s : Rank) (id : ℕ) → Contains (ranked r ids) (s, id) → (r ≡ s) × Contains ids id
+in_ranked r [] s id c = absurd (omega (arith, c.1))
+in_ranked r (x ∷ ids) s id c = elim (in_cons (r, x) (ranked r ids) (s, id) c) [
+  | inl here ↦ (ap (λ (p : Rank × ℕ). p.0) here, subst (Contains (x ∷ ids)) (ap (λ (p : Rank × ℕ). p.1) here) (head_there x ids))
+  | inr more ↦ let h : (r ≡ s) × Contains ids id = in_ranked r ids s id more in (h.0, tail_there x ids id h.1)
 ]
 
-pub more_there : (es : List (ℕ × SmallVec ℕ)) (key id : ℕ) (x v : SmallVec ℕ) → length (insert_entry nat_cmp es key v) ≡ length es → lookup (is_at (nat_cmp key)) es ≡ Some x → v.items ≡ x.items ++ id ∷ [] → IsHeldMore es (insert_entry nat_cmp es key v) key id
-more_there es key id x v long found is = subst (λ (fs : List (ℕ × SmallVec ℕ)). IsHeldMore es fs key id) (sym (insert_there es key v long)) (more_at es key id x v found is)
-
--- ---- a bucket of its own
-
-own_first : (es : List (ℕ × SmallVec ℕ)) (key id : ℕ) (v : SmallVec ℕ) → v.items ≡ id ∷ [] → IsHeldMore es ((key, v) ∷ es) key id
-own_first es key id v is = record {
-  held = λ w q. (
-    λ h. elim h [
-      | inl now ↦ elim (Contains-push_cases [] id q (subst (λ xs. Contains xs q) is now.1)) [ inl old ↦ absurd (omega (arith, old.1)) | inr same ↦ inr (sym now.0, sym same) ]
-      | inr later ↦ inl later
-    ],
-    λ h. elim h [
-      | inl old ↦ inr old
-      | inr new ↦ inl (sym new.0, subst (λ xs. Contains xs q) (sym is) (subst (λ r. Contains (id ∷ []) r) (sym new.1) (Contains-push [] id)))
-    ],
-  );
-  count = omega (arith, ap length is);
-  buckets = λ a live weight h. (subst (IsBucket a key) (sym is) (bucket_one a key id live weight), h);
-}
-
-pub more_new : (es : List (ℕ × SmallVec ℕ)) (key id : ℕ) (v : SmallVec ℕ) → lookup (is_at (nat_cmp key)) es ≡ None → v.items ≡ id ∷ [] → IsHeldMore es (insert_entry nat_cmp es key v) key id
-more_new [] key id v gone is = own_first [] key id v is
-more_new (e ∷ es) key id v gone is = elim (key_or_not key e.0) [
-  | inl here ↦ let found : Some e.1 ≡ None = sym (ap (λ b. cond b (Some e.1) (lookup (is_at (nat_cmp key)) es)) here.0) ∙ gone in cc
-  | inr other ↦ go (nat_cmp key e.0) refl other.0 (more_new es key id v (sym (ap (λ b. cond b (Some e.1) (lookup (is_at (nat_cmp key)) es)) other.0) ∙ gone) is)
-]
-  where
-    go : (o : Ordering) → nat_cmp key e.0 ≡ o → is_eq (nat_cmp key e.0) ≡ false → IsHeldMore es (insert_entry nat_cmp es key v) key id → IsHeldMore (e ∷ es) (insert_entry nat_cmp (e ∷ es) key v) key id
-    go Less at apart more = subst (λ (fs : List (ℕ × SmallVec ℕ)). IsHeldMore (e ∷ es) fs key id) (sym (ap (λ o. match_ordering o ((key, v) ∷ e ∷ es) ((e.0, v) ∷ es) (e ∷ insert_entry nat_cmp es key v)) at)) (own_first (e ∷ es) key id v is)
-    go Equal at apart more = absurd (true≢false (sym (ap is_eq at) ∙ apart))
-    go Greater at apart more = subst (λ (fs : List (ℕ × SmallVec ℕ)). IsHeldMore (e ∷ es) fs key id) (sym (ap (λ o. match_ordering o ((key, v) ∷ e ∷ es) ((e.0, v) ∷ es) (e ∷ insert_entry nat_cmp es key v)) at)) (in_tail e es (insert_entry nat_cmp es key v) key id more)
-
--- ---- where nothing is added
-
-held_in_same : (es : List (ℕ × SmallVec ℕ)) (key : ℕ) (x v : SmallVec ℕ) → lookup (is_at (nat_cmp key)) es ≡ Some x → v.items ≡ x.items → held_in (set_value (is_at (nat_cmp key)) es v) ≡ held_in es
-held_in_same [] key x v found is = cc
-held_in_same (e ∷ es) key x v found is = elim (key_or_not key e.0) [
-  | inl here ↦
-      let here_x : Some e.1 ≡ Some x = sym (ap (λ b. cond b (Some e.1) (lookup (is_at (nat_cmp key)) es)) here.0) ∙ found in
-      let same : e.1 ≡ x = cc in
-      ap (λ b. held_in (cond b ((e.0, v) ∷ es) (e ∷ set_value (is_at (nat_cmp key)) es v))) here.0 ∙ ap (λ (ids : List ℕ). (e.0, ids) ∷ held_in es) (is ∙ ap (λ (y : SmallVec ℕ). y.items) (sym same))
-  | inr other ↦
-      ap (λ b. held_in (cond b ((e.0, v) ∷ es) (e ∷ set_value (is_at (nat_cmp key)) es v))) other.0
-      ∙ ap (λ hs. (e.0, e.1.items) ∷ hs) (held_in_same es key x v (sym (ap (λ b. cond b (Some e.1) (lookup (is_at (nat_cmp key)) es)) other.0) ∙ found) is)
+to_ranked : (r : Rank) (ids : List ℕ) (id : ℕ) → Contains ids id → Contains (ranked r ids) (r, id)
+to_ranked r [] id c = absurd (omega (arith, c.1))
+to_ranked r (x ∷ ids) id c = elim (in_cons x ids id c) [
+  | inl here ↦ subst (λ q. Contains ((r, x) ∷ ranked r ids) (r, q)) here (head_there (r, x) (ranked r ids))
+  | inr more ↦ tail_there (r, x) (ranked r ids) (r, id) (to_ranked r ids id more)
 ]
 
-pub held_in_there : (es : List (ℕ × SmallVec ℕ)) (key : ℕ) (x v : SmallVec ℕ) → length (insert_entry nat_cmp es key v) ≡ length es → lookup (is_at (nat_cmp key)) es ≡ Some x → v.items ≡ x.items → held_in (insert_entry nat_cmp es key v) ≡ held_in es
-held_in_there es key x v long found is = ap held_in (insert_there es key v long) ∙ held_in_same es key x v found is
+module _ (rs : List Rank) (idss : List (List ℕ)) (i : ℕ) (inside : i < length rs) (many : length idss ≡ length rs) where
+  -- the ids of a bucket are held with its rank
+  pub held_there : (id : ℕ) → Contains (ids_at idss i) id → Contains (held_by rs idss) (rank_at rs i, id)
+  held_there id c =
+      let s : IsSplit rs idss i = split_at rs idss i inside many in
+      Contains-permutation (ranked (rank_at rs i) (ids_at idss i) ++ s.others) (held_by rs idss) (rank_at rs i, id)
+      (IsPermutation-sym (held_by rs idss) (ranked (rank_at rs i) (ids_at idss i) ++ s.others) (subst (λ js. IsPermutation (held_by rs js) (ranked (rank_at rs i) (ids_at idss i) ++ s.others)) (set-get_or idss i []) (s.with_ids (ids_at idss i))))
+      (Contains-append_left (ranked (rank_at rs i) (ids_at idss i)) s.others (rank_at rs i, id) (to_ranked (rank_at rs i) (ids_at idss i) id c))
 
--- ---- room
+-- the bucket in which an id is held
+pub record IsIn (rs : List Rank) (idss : List (List ℕ)) (r : Rank) (id : ℕ) : Type 0 where
+  pub i : ℕ
+  pub inside : i < length rs
+  pub rank : rank_at rs i ≡ r
+  pub held : Contains (ids_at idss i) id
 
-pub roomy_more : (es : List (ℕ × SmallVec ℕ)) (a b : ℕ) → a ≤ b → AreRoomy a es → AreRoomy b es
-roomy_more [] a b upto h = tt
-roomy_more (e ∷ es) a b upto h = (omega (arith, h.0), roomy_more es a b upto h.1)
+pub held_where : (rs : List Rank) (idss : List (List ℕ)) (r : Rank) (id : ℕ) → Contains (held_by rs idss) (r, id) → IsIn rs idss r id
+held_where [] idss r id c = absurd (omega (arith, c.1))
+held_where (s ∷ rs) [] r id c = absurd (omega (arith, c.1))
+held_where (s ∷ rs) (ids ∷ idss) r id c = elim (Contains-append_cases (ranked s ids) (held_by rs idss) (r, id) c) [
+  | inl here ↦ let h : (s ≡ r) × Contains ids id = in_ranked s ids r id here in record { i = 0; inside = omega arith; rank = h.0; held = h.1 }
+  | inr more ↦ let h : IsIn rs idss r id = held_where rs idss r id more in record { i = suc h.i; inside = omega (arith, h.inside); rank = h.rank; held = h.held }
+]
 
-pub roomy_insert : (es : List (ℕ × SmallVec ℕ)) (key most : ℕ) (v : SmallVec ℕ) → length v.items ≤ most → AreRoomy most es → AreRoomy most (insert_entry nat_cmp es key v)
-roomy_insert [] key most v fits h = (fits, tt)
-roomy_insert (e ∷ es) key most v fits h = go (nat_cmp key e.0) (roomy_insert es key most v fits h.1)
-  where
-    go : (o : Ordering) → AreRoomy most (insert_entry nat_cmp es key v) → AreRoomy most (match_ordering o ((key, v) ∷ e ∷ es) ((e.0, v) ∷ es) (e ∷ insert_entry nat_cmp es key v))
-    go Less rest = (fits, h)
-    go Equal rest = (fits, h.1)
-    go Greater rest = (h.0, rest)
+pub held_none : (rs : List Rank) (idss : List (List ℕ)) → ((i : ℕ) → length (ids_at idss i) ≡ 0) → held_by rs idss ≡ []
+held_none [] idss none = refl
+held_none (r ∷ rs) [] none = refl
+held_none (r ∷ rs) (ids ∷ idss) none = ap (λ js. ranked r js ++ held_by rs idss) (nil_from_length ids (none 0)) ∙ held_none rs idss (λ i. none (suc i))
 
--- ---- arenas that agree on the held ids
+pub some_id : (ids : List ℕ) (id : ℕ) → Contains ids id → 0 < length ids
+some_id ids id c = let l : c.0 < length ids = c.1 in omega (arith, l)
 
-buckets_agree : (b a : Arena) (bs : List (ℕ × List ℕ)) → ((w id : ℕ) → HoldsAt bs w id → IsLive b id) → ((w id : ℕ) → HoldsAt bs w id → weight_of b id ≡ weight_of a id) → AreBuckets a bs → AreBuckets b bs
-buckets_agree b a [] live weights h = tt
-buckets_agree b a (k ∷ bs) live weights h = (
-  record {
-    some = h.0.some;
-    live = λ id c. live k.0 id (inl (refl, c));
-    weight = λ id c. weights k.0 id (inl (refl, c)) ∙ h.0.weight id c;
-  },
-  buckets_agree b a bs (λ w id held. live w id (inr held)) (λ w id held. weights w id (inr held)) h.1,
-)
+-- ---- an empty bucket more
+
+pub ids_more : (idss : List (List ℕ)) (i : ℕ) → ids_at (idss ++ [] ∷ []) i ≡ ids_at idss i
+ids_more [] zero = refl
+ids_more [] (suc i) = refl
+ids_more (ids ∷ idss) zero = refl
+ids_more (ids ∷ idss) (suc i) = ids_more idss i
+
+pub held_same : (rs : List Rank) (idss : List (List ℕ)) (r : Rank) → length idss ≡ length rs → held_by (rs ++ r ∷ []) (idss ++ [] ∷ []) ≡ held_by rs idss
+held_same [] [] r many = refl
+held_same [] (ids ∷ idss) r many = absurd (omega (arith, many))
+held_same (s ∷ rs) [] r many = absurd (omega (arith, many))
+held_same (s ∷ rs) (ids ∷ idss) r many = ap (λ l. ranked s ids ++ l) (held_same rs idss r (omega (arith, many)))
+
+pub ids_get : (bs : List Bucket) (i : ℕ) (b : Bucket) → i < length bs → ids_at (idss_in bs) i ≡ (get_or bs i b).ids.items
+ids_get bs i b inside = get_or-map (λ (c : Bucket). c.ids.items) bs i b [] inside
+
+-- ---- a bucket with other ids
+
+module _ (bs : List Bucket) (i : ℕ) (b d : Bucket) (inside : i < length bs) (at : b ≡ get_or bs i b) where
+  pub ranks_same : rank_in d ≡ rank_in b → ranks_in (slice_set bs i d) ≡ ranks_in bs
+  ranks_same same = map-set rank_in bs i d ∙ ap (slice_set (ranks_in bs) i) (same ∙ ap rank_in at ∙ sym (get_or-map rank_in bs i b no_rank inside)) ∙ set-get_or (ranks_in bs) i no_rank
+
+  pub nexts_same : d.next ≡ b.next → nexts_in (slice_set bs i d) ≡ nexts_in bs
+  nexts_same same = map-set (λ (c : Bucket). c.next) bs i d ∙ ap (slice_set (nexts_in bs) i) (same ∙ ap (λ (c : Bucket). c.next) at ∙ sym (get_or-map (λ (c : Bucket). c.next) bs i b 0 inside)) ∙ set-get_or (nexts_in bs) i 0
+
+  pub idss_now : idss_in (slice_set bs i d) ≡ slice_set (idss_in bs) i d.ids.items
+  idss_now = map-set (λ (c : Bucket). c.ids.items) bs i d
+
+  pub ids_is : ids_at (idss_in bs) i ≡ b.ids.items
+  ids_is = get_or-map (λ (c : Bucket). c.ids.items) bs i b [] inside ∙ ap (λ (c : Bucket). c.ids.items) (sym at)
+
+  pub idss_same : d.ids.items ≡ b.ids.items → idss_in (slice_set bs i d) ≡ idss_in bs
+  idss_same same = idss_now ∙ ap (slice_set (idss_in bs) i) (same ∙ sym ids_is) ∙ set-get_or (idss_in bs) i []
+
+-- ---- classes
 
 pub fits_agree : (c : Classes) (a b : Arena) → Fits c a → AgreeOnHeld c a b → Fits c b
 fits_agree c a b fits agree = record {
   vertices = agree.vertices ∙ fits.vertices;
-  buckets = buckets_agree b a c.held agree.live agree.weights fits.buckets;
+  live = agree.live;
+  ranks = λ r id held. agree.ranks r id held ∙ fits.ranks r id held;
 }
 
--- a held id is live, and has the weight with which it is held
-pub held_is_live : (a : Arena) (bs : List (ℕ × List ℕ)) (w id : ℕ) → AreBuckets a bs → HoldsAt bs w id → IsLive a id × (weight_of a id ≡ w)
-held_is_live a [] w id h held = absurd held
-held_is_live a (b ∷ bs) w id h held = elim held [
-  | inl here ↦ (h.0.live id here.1, h.0.weight id here.1 ∙ here.0)
-  | inr more ↦ held_is_live a bs w id h.1 more
+-- which ids are held when one more is
+pub pushed_held : (old new : Classes) (a : Arena) (id : ℕ) → IsPushed old new a id → (r : Rank) (q : ℕ) → IsHeld new r q ↔ (IsHeld old r q ⊎ ((r ≡ rank_of a id) × (q ≡ id)))
+pushed_held old new a id s r q = (
+  λ h. elim (in_cons (rank_of a id, id) old.held (r, q) (Contains-permutation new.held ((rank_of a id, id) ∷ old.held) (r, q) (IsPermutation-sym ((rank_of a id, id) ∷ old.held) new.held s.held) h)) [
+    | inl here ↦ inr (ap (λ (p : Rank × ℕ). p.0) (sym here), ap (λ (p : Rank × ℕ). p.1) (sym here))
+    | inr more ↦ inl more
+  ],
+  λ h. Contains-permutation ((rank_of a id, id) ∷ old.held) new.held (r, q) s.held (elim h [
+    | inl more ↦ tail_there (rank_of a id, id) old.held (r, q) more
+    | inr here ↦ subst (λ (k : Rank). Contains ((rank_of a id, id) ∷ old.held) (k, q)) (sym here.0) (subst (λ j. Contains ((rank_of a id, id) ∷ old.held) (rank_of a id, j)) (sym here.1) (head_there (rank_of a id, id) old.held))
+  ]),
+)
+
+pub pushed_fits : (old new : Classes) (a : Arena) (id : ℕ) → IsPushed old new a id → Fits old a → IsLive a id → Fits new a
+pushed_fits old new a id s fits live = record {
+  vertices = fits.vertices ∙ sym s.vertices;
+  live = λ r q h. elim ((pushed_held old new a id s r q).0 h) [ inl was ↦ fits.live r q was | inr is ↦ subst (IsLive a) (sym is.1) live ];
+  ranks = λ r q h. elim ((pushed_held old new a id s r q).0 h) [ inl was ↦ fits.ranks r q was | inr is ↦ ap (rank_of a) is.1 ∙ sym is.0 ];
+}
+
+-- what was held is in the class or is held
+pub popped_cases : (old new : Classes) (a : Arena) (rank : Rank) (winners : List ℕ) (s : IsPopped old new a rank winners) (r : Rank) (q : ℕ) → IsHeld old r q → ((rank ≡ r) × Contains s.class q) ⊎ IsHeld new r q
+popped_cases old new a rank winners s r q h = elim (Contains-append_cases (ranked rank s.class) new.held (r, q) (Contains-permutation old.held (ranked rank s.class ++ new.held) (r, q) s.held h)) [
+  | inl here ↦ inl (in_ranked rank s.class r q here)
+  | inr more ↦ inr more
 ]
 
-pub roomy_found : (es : List (ℕ × SmallVec ℕ)) (key most : ℕ) (x : SmallVec ℕ) → lookup (is_at (nat_cmp key)) es ≡ Some x → AreRoomy most es → length x.items ≤ most
-roomy_found [] key most x found h = cc
-roomy_found (e ∷ es) key most x found h = elim (key_or_not key e.0) [
-  | inl here ↦
-      let here_x : Some e.1 ≡ Some x = sym (ap (λ b. cond b (Some e.1) (lookup (is_at (nat_cmp key)) es)) here.0) ∙ found in
-      let same : e.1 ≡ x = cc in
-      omega (arith, h.0, ap (λ (v : SmallVec ℕ). length v.items) same)
-  | inr other ↦ roomy_found es key most x (sym (ap (λ b. cond b (Some e.1) (lookup (is_at (nat_cmp key)) es)) other.0) ∙ found) h.1
-]
+pub class_held : (old new : Classes) (a : Arena) (rank : Rank) (winners : List ℕ) (s : IsPopped old new a rank winners) (q : ℕ) → Contains s.class q → IsHeld old rank q
+class_held old new a rank winners s q c = Contains-permutation (ranked rank s.class ++ new.held) old.held (rank, q) (IsPermutation-sym old.held (ranked rank s.class ++ new.held) s.held) (Contains-append_left (ranked rank s.class) new.held (rank, q) (to_ranked rank s.class q c))
 
-pub on_ok : {A E P Q : Type 0} (r : Result A E) → (P → Q) → OnOk r P → OnOk r Q
-on_ok (Ok a) f p = f p
-on_ok (Err e) f p = p
+pub still_held : (old new : Classes) (a : Arena) (rank : Rank) (winners : List ℕ) (s : IsPopped old new a rank winners) (r : Rank) (q : ℕ) → IsHeld new r q → IsHeld old r q
+still_held old new a rank winners s r q h = Contains-permutation (ranked rank s.class ++ new.held) old.held (r, q) (IsPermutation-sym old.held (ranked rank s.class ++ new.held) s.held) (Contains-append_right (ranked rank s.class) new.held (r, q) h)
 
-pub on_err : {A E P Q : Type 0} (r : Result A E) → (P → Q) → OnErr r P → OnErr r Q
-on_err (Ok a) f p = p
-on_err (Err e) f p = f p
+pub popped_fits : (old new : Classes) (a : Arena) (rank : Rank) (winners : List ℕ) → IsPopped old new a rank winners → Fits old a → Fits new a
+popped_fits old new a rank winners s fits = record {
+  vertices = fits.vertices ∙ sym s.vertices;
+  live = λ r q h. fits.live r q (still_held old new a rank winners s r q h);
+  ranks = λ r q h. fits.ranks r q (still_held old new a rank winners s r q h);
+}

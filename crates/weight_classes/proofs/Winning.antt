@@ -1,5 +1,5 @@
 -- The winners among the ids of a class, key by key.
-use Rattle.std.specs.Prelude.{◌≡◌, ◌≢◌, ℕ, ◌+◌, ◌<◌, ◌≤◌, ◌⊎◌, ◌↔◌, zero, suc, ◌==◌, true, false, Bool, if◌then◌else◌, List, [], ◌∷◌, ◌++◌, length, take, map, slice_index, slice_set, refl, Contains}
+use Rattle.std.specs.Prelude.{◌≡◌, ℕ, ◌+◌, ◌<◌, ◌≤◌, ◌⊎◌, ◌↔◌, zero, suc, ◌==◌, true, false, Bool, if◌then◌else◌, List, [], ◌∷◌, ◌++◌, length, take, map, slice_set, refl, Contains}
 use Rattle.std.specs.declared.cmp.Ordering.TheVariants.{Less, Equal, Greater}
 use Rattle.std.specs.declared.cmp.Ordering.{Ordering}
 use Rattle.std.specs.Ordering.{ordering_index}
@@ -15,7 +15,7 @@ use Rattle.apsp_model.specs.Walk.{hops_of}
 use Rattle.apsp_model.proofs.Lists.{contains_cons}
 use Rattle.path_arena.specs.Arena.{Arena, weight_of, list_of, id_cmp}
 use Rattle.weight_classes.specs.declared.choice.Key.{Key}
-use Rattle.weight_classes.specs.Choice.{place_of, key_of, HasEnds, AreKeys, GivesWay, IsConsidered, AreRising, IsChosen}
+use Rattle.weight_classes.specs.Choice.{IsWonAt, place_of, key_of, HasEnds, AreKeys, GivesWay, IsConsidered, AreRising, IsChosen}
 
 id_cmp_total : (a : Arena) → IsTotalOrder (id_cmp a)
 id_cmp_total a = then_total (on_total (weight_of a) nat_cmp_total) (then_total (on_total (λ id. hops_of (list_of a id)) nat_cmp_total) (on_total (list_of a) nat_list_cmp_total))
@@ -48,44 +48,42 @@ rising_front a (w ∷ ws) id h =
 
 -- ---- one key more
 
-pub chosen_none : (a : Arena) (round : ℕ) (Seen : ℕ → Type 0) (rounds : List ℕ) → ((q : ℕ) → Seen q → ⊥) → IsChosen a round Seen rounds rounds [] (length rounds)
-chosen_none a round Seen rounds none = record {
+pub chosen_none : (a : Arena) (Seen : ℕ → Type 0) (rounds : List Bool) → ((q : ℕ) → Seen q → ⊥) → IsChosen a Seen rounds rounds [] (length rounds)
+chosen_none a Seen rounds none = record {
   seen = λ w c. absurd (omega (arith, c.1));
   fresh = λ w c. absurd (omega (arith, c.1));
   least = λ w q c. absurd (omega (arith, c.1));
   each = λ q s. absurd (none q s);
   rising = tt;
   marked = λ k inside. (λ h. inl h, λ h. elim h [ inl was ↦ was | inr w ↦ absurd (let l : w.1.0 < 0 = w.1.1 in omega arith) ]);
-  bounded = λ h. h;
   many = refl;
   last_is = inl (refl, refl);
 }
 
 -- the ids that are seen do not matter but for which they are
-pub chosen_same : (a : Arena) (round : ℕ) (Seen Seen1 : ℕ → Type 0) (rounds marks winners : List ℕ) (last : ℕ) → ((q : ℕ) → Seen q ↔ Seen1 q) → IsChosen a round Seen rounds marks winners last → IsChosen a round Seen1 rounds marks winners last
-chosen_same a round Seen Seen1 rounds marks winners last same s = record {
+pub chosen_same : (a : Arena) (Seen Seen1 : ℕ → Type 0) (rounds marks : List Bool) (winners : List ℕ) (last : ℕ) → ((q : ℕ) → Seen q ↔ Seen1 q) → IsChosen a Seen rounds marks winners last → IsChosen a Seen1 rounds marks winners last
+chosen_same a Seen Seen1 rounds marks winners last same s = record {
   seen = λ w c. (same w).0 (s.seen w c);
   fresh = s.fresh;
   least = λ w q c t. s.least w q c ((same q).1 t);
   each = λ q t. s.each q ((same q).1 t);
   rising = s.rising;
   marked = s.marked;
-  bounded = s.bounded;
   many = s.many;
   last_is = s.last_is;
 }
 
-module _ (a : Arena) (round : ℕ) (Seen : ℕ → Type 0) (rounds marks winners : List ℕ) (last id : ℕ) (s : IsChosen a round Seen rounds marks winners last) (upto : (q : ℕ) → Seen q → place_of a q ≤ place_of a id) (inside : place_of a id < length rounds) where
+module _ (a : Arena) (Seen : ℕ → Type 0) (rounds marks : List Bool) (winners : List ℕ) (last id : ℕ) (s : IsChosen a Seen rounds marks winners last) (upto : (q : ℕ) → Seen q → place_of a q ≤ place_of a id) (inside : place_of a id < length rounds) where
   abbrev pub More : ℕ → Type 0
   More q = Seen q ⊎ (q ≡ id)
 
   -- its pair was not won
-  wins : slice_index marks (place_of a id) ≢ round → IsChosen a round More rounds (slice_set marks (place_of a id) round) (winners ++ id ∷ []) (place_of a id)
+  wins : (IsWonAt marks (place_of a id) → ⊥) → IsChosen a More rounds (slice_set marks (place_of a id) true) (winners ++ id ∷ []) (place_of a id)
   wins new = record {
     seen = λ w c. elim (Contains-push_cases winners id w c) [ inl old ↦ inl (s.seen w old) | inr same ↦ inr (sym same) ];
     fresh = λ w c was. elim (Contains-push_cases winners id w c) [
       | inl old ↦ s.fresh w old was
-      | inr same ↦ new ((s.marked (place_of a id) inside).1 (inl (subst (λ r. slice_index rounds (place_of a r) ≡ round) (sym same) was)))
+      | inr same ↦ new ((s.marked (place_of a id) inside).1 (inl (subst (λ r. IsWonAt rounds (place_of a r)) (sym same) was)))
     ];
     least = λ w q c t same_place below. elim (Contains-push_cases winners id w c) [
       | inl old ↦ elim t [
@@ -94,7 +92,7 @@ module _ (a : Arena) (round : ℕ) (Seen : ℕ → Type 0) (rounds marks winners
       ]
       | inr same ↦ elim t [
         | inl was ↦ elim (s.each q was) [
-          | inl before ↦ new ((s.marked (place_of a id) inside).1 (inl (subst (λ k. slice_index rounds k ≡ round) (same_place ∙ ap (place_of a) (sym same)) before)))
+          | inl before ↦ new ((s.marked (place_of a id) inside).1 (inl (subst (λ k. IsWonAt rounds k) (same_place ∙ ap (place_of a) (sym same)) before)))
           | inr v ↦ new ((s.marked (place_of a id) inside).1 (inr (v.0, v.1, v.2 ∙ same_place ∙ ap (place_of a) (sym same))))
         ]
         | inr itself ↦ not_below_itself a id (subst (λ r. id_cmp a r id ≡ Less) itself (subst (λ r. id_cmp a q r ≡ Less) (sym same) below))
@@ -111,26 +109,22 @@ module _ (a : Arena) (round : ℕ) (Seen : ℕ → Type 0) (rounds marks winners
     marked = λ k k_in. elim (cases_eq k (place_of a id)) [
       | inl here ↦ (
         λ m. inr (id, Contains-push winners id, sym here),
-        λ h. subst (λ j. slice_index (slice_set marks (place_of a id) round) j ≡ round) (sym here) (get_or-set_same marks (place_of a id) round 0 (let l : length marks ≡ length rounds = s.many in omega arith)),
+        λ h. subst (λ j. IsWonAt (slice_set marks (place_of a id) true) j) (sym here) (get_or-set_same marks (place_of a id) true false (let l : length marks ≡ length rounds = s.many in omega arith)),
       )
       | inr other ↦ (
-        λ m. elim ((s.marked k k_in).0 (sym (get_or-set_other marks (place_of a id) k round 0 other) ∙ m)) [ inl before ↦ inl before | inr v ↦ inr (v.0, Contains-append_left winners (id ∷ []) v.0 v.1, v.2) ],
-        λ h. get_or-set_other marks (place_of a id) k round 0 other ∙ (s.marked k k_in).1 (elim h [
+        λ m. elim ((s.marked k k_in).0 (sym (get_or-set_other marks (place_of a id) k true false other) ∙ m)) [ inl before ↦ inl before | inr v ↦ inr (v.0, Contains-append_left winners (id ∷ []) v.0 v.1, v.2) ],
+        λ h. get_or-set_other marks (place_of a id) k true false other ∙ (s.marked k k_in).1 (elim h [
           | inl before ↦ inl before
           | inr v ↦ elim (Contains-push_cases winners id v.0 v.1) [ inl old ↦ inr (v.0, old, v.2) | inr same ↦ absurd (other (sym v.2 ∙ ap (place_of a) (sym same))) ]
         ]),
       )
     ];
-    bounded = λ h k. elim (cases_eq k (place_of a id)) [
-      | inl here ↦ let e : slice_index (slice_set marks (place_of a id) round) k ≡ round = ap (slice_index (slice_set marks (place_of a id) round)) here ∙ get_or-set_same marks (place_of a id) round 0 (let l : length marks ≡ length rounds = s.many in omega arith) in omega arith
-      | inr other ↦ omega (arith, s.bounded h k, get_or-set_other marks (place_of a id) k round 0 other)
-    ];
-    many = length-set marks (place_of a id) round ∙ s.many;
+    many = length-set marks (place_of a id) true ∙ s.many;
     last_is = inr (winners, id, refl, refl);
   }
 
   -- its pair was won
-  module _ (won : slice_index marks (place_of a id) ≡ round) where
+  module _ (won : IsWonAt marks (place_of a id)) where
     -- by the last winner, where a winner has its place
     last_has : (w : ℕ) → Contains winners w → place_of a w ≡ place_of a id → (front : List ℕ) × (winners ≡ front ++ w ∷ []) × (last ≡ place_of a id)
     last_has w c same = elim s.last_is [
@@ -146,7 +140,7 @@ module _ (a : Arena) (round : ℕ) (Seen : ℕ → Type 0) (rounds marks winners
         w_at : ℕ
         w_at = c.0
 
-    still : ((w : ℕ) → Contains winners w → place_of a w ≡ place_of a id → id_cmp a id w ≡ Less → ⊥) → IsChosen a round More rounds marks winners last
+    still : ((w : ℕ) → Contains winners w → place_of a w ≡ place_of a id → id_cmp a id w ≡ Less → ⊥) → IsChosen a More rounds marks winners last
     still not_below = record {
       seen = λ w c. inl (s.seen w c);
       fresh = s.fresh;
@@ -156,21 +150,20 @@ module _ (a : Arena) (round : ℕ) (Seen : ℕ → Type 0) (rounds marks winners
       ];
       each = λ q t. elim t [
         | inl was ↦ s.each q was
-        | inr itself ↦ elim ((s.marked (place_of a id) inside).0 won) [ inl before ↦ inl (subst (λ r. slice_index rounds (place_of a r) ≡ round) (sym itself) before) | inr v ↦ inr (v.0, v.1, v.2 ∙ ap (place_of a) (sym itself)) ]
+        | inr itself ↦ elim ((s.marked (place_of a id) inside).0 won) [ inl before ↦ inl (subst (λ r. IsWonAt rounds (place_of a r)) (sym itself) before) | inr v ↦ inr (v.0, v.1, v.2 ∙ ap (place_of a) (sym itself)) ]
       ];
       rising = s.rising;
       marked = s.marked;
-      bounded = s.bounded;
       many = s.many;
       last_is = s.last_is;
     }
 
-    gives_way : (front : List ℕ) (w : ℕ) → winners ≡ front ++ w ∷ [] → place_of a w ≡ place_of a id → id_cmp a id w ≡ Less → last ≡ place_of a id → IsChosen a round More rounds marks (front ++ id ∷ []) last
+    gives_way : (front : List ℕ) (w : ℕ) → winners ≡ front ++ w ∷ [] → place_of a w ≡ place_of a id → id_cmp a id w ≡ Less → last ≡ place_of a id → IsChosen a More rounds marks (front ++ id ∷ []) last
     gives_way front w was same below last_at = record {
       seen = λ v c. elim (Contains-push_cases front id v c) [ inl old ↦ inl (s.seen v (in_old v old)) | inr itself ↦ inr (sym itself) ];
       fresh = λ v c before. elim (Contains-push_cases front id v c) [
         | inl old ↦ s.fresh v (in_old v old) before
-        | inr itself ↦ s.fresh w w_in (subst (λ k. slice_index rounds k ≡ round) (ap (place_of a) (sym itself) ∙ sym same) before)
+        | inr itself ↦ s.fresh w w_in (subst (λ k. IsWonAt rounds k) (ap (place_of a) (sym itself) ∙ sym same) before)
       ];
       least = λ v q c t same_place under. elim (Contains-push_cases front id v c) [
         | inl old ↦ elim t [
@@ -194,7 +187,6 @@ module _ (a : Arena) (round : ℕ) (Seen : ℕ → Type 0) (rounds marks winners
           | inr v ↦ elim (Contains-push_cases front id v.0 v.1) [ inl old ↦ inr (v.0, in_old v.0 old, v.2) | inr itself ↦ inr (w, w_in, same ∙ ap (place_of a) itself ∙ v.2) ]
         ]),
       );
-      bounded = s.bounded;
       many = s.many;
       last_is = inr (front, id, refl, sym last_at);
     }
@@ -214,23 +206,23 @@ module _ (a : Arena) (round : ℕ) (Seen : ℕ → Type 0) (rounds marks winners
           | inr itself ↦ (id, Contains-push front id, sym same ∙ ap (place_of a) itself ∙ at)
         ]
 
-  pub chosen_more : (key : Key) (later rounds_after : List ℕ) (result : ℕ) → key ≡ key_of a id → IsConsidered a round key last winners marks later rounds_after result → IsChosen a round More rounds rounds_after later result
+  pub chosen_more : (key : Key) (later : List ℕ) (rounds_after : List Bool) (result : ℕ) → key ≡ key_of a id → IsConsidered a key last winners marks later rounds_after result → IsChosen a More rounds rounds_after later result
   chosen_more key later rounds_after result is considered =
-      go later rounds_after result (subst (λ (k : Key). IsConsidered a round k last winners marks later rounds_after result) is considered)
+      go later rounds_after result (subst (λ (k : Key). IsConsidered a k last winners marks later rounds_after result) is considered)
     where
-      go : (later rounds_after : List ℕ) (result : ℕ) → IsConsidered a round (key_of a id) last winners marks later rounds_after result → IsChosen a round More rounds rounds_after later result
+      go : (later : List ℕ) (rounds_after : List Bool) (result : ℕ) → IsConsidered a (key_of a id) last winners marks later rounds_after result → IsChosen a More rounds rounds_after later result
       go later rounds_after result h = elim h [
-        | inl new ↦ subst (λ r. IsChosen a round More rounds rounds_after later r) (sym new.3) (subst (λ m. IsChosen a round More rounds m later (place_of a id)) (sym new.2) (subst (λ l. IsChosen a round More rounds (slice_set marks (place_of a id) round) l (place_of a id)) (sym new.1) (wins new.0)))
-        | inr old ↦ subst (λ r. IsChosen a round More rounds rounds_after later r) (sym old.2) (subst (λ m. IsChosen a round More rounds m later last) (sym old.1) (elim old.3 [
-          | inl apart ↦ subst (λ l. IsChosen a round More rounds marks l last) (sym apart.1) (still old.0 (λ w c same below. apart.0 (last_has old.0 w c same).2))
+        | inl new ↦ subst (λ r. IsChosen a More rounds rounds_after later r) (sym new.3) (subst (λ m. IsChosen a More rounds m later (place_of a id)) (sym new.2) (subst (λ l. IsChosen a More rounds (slice_set marks (place_of a id) true) l (place_of a id)) (sym new.1) (wins new.0)))
+        | inr old ↦ subst (λ r. IsChosen a More rounds rounds_after later r) (sym old.2) (subst (λ m. IsChosen a More rounds m later last) (sym old.1) (elim old.3 [
+          | inl apart ↦ subst (λ l. IsChosen a More rounds marks l last) (sym apart.1) (still old.0 (λ w c same below. apart.0 (last_has old.0 w c same).2))
           | inr at_last ↦ elim at_last.1.now [
-            | inl kept ↦ subst (λ l. IsChosen a round More rounds marks l last) (sym kept.1) (still old.0 (λ w c same below. kept.0 (subst (λ v. id_cmp a id v ≡ Less) (one_last old.0 w c same at_last.1.front at_last.1.w at_last.1.was) below)))
-            | inr gone ↦ subst (λ l. IsChosen a round More rounds marks l last) (sym gone.1) (gives_way old.0 at_last.1.front at_last.1.w at_last.1.was (place_is at_last.1.front at_last.1.w at_last.1.was at_last.0) gone.0 at_last.0)
+            | inl kept ↦ subst (λ l. IsChosen a More rounds marks l last) (sym kept.1) (still old.0 (λ w c same below. kept.0 (subst (λ v. id_cmp a id v ≡ Less) (one_last old.0 w c same at_last.1.front at_last.1.w at_last.1.was) below)))
+            | inr gone ↦ subst (λ l. IsChosen a More rounds marks l last) (sym gone.1) (gives_way old.0 at_last.1.front at_last.1.w at_last.1.was (place_is at_last.1.front at_last.1.w at_last.1.was at_last.0) gone.0 at_last.0)
           ]
         ]))
       ]
         where
-          one_last : (won : slice_index marks (place_of a id) ≡ round) (w : ℕ) → Contains winners w → place_of a w ≡ place_of a id → (front : List ℕ) (v : ℕ) → winners ≡ front ++ v ∷ [] → w ≡ v
+          one_last : (won : IsWonAt marks (place_of a id)) (w : ℕ) → Contains winners w → place_of a w ≡ place_of a id → (front : List ℕ) (v : ℕ) → winners ≡ front ++ v ∷ [] → w ≡ v
           one_last won w c same front v was = let l = last_has won w c same in (same_from_push l.0 front w v (sym l.1 ∙ was)).1
 
           place_is : (front : List ℕ) (w : ℕ) → winners ≡ front ++ w ∷ [] → last ≡ place_of a id → place_of a w ≡ place_of a id
@@ -340,8 +332,8 @@ module _ (a : Arena) (ids : List ℕ) (keys : List Key) (are : AreKeys a ids key
   )
 
 -- where the last place is one of a pair there is a winner
-pub some_winner : (a : Arena) (round : ℕ) (Seen : ℕ → Type 0) (rounds marks winners : List ℕ) (last : ℕ) → IsChosen a round Seen rounds marks winners last → (last ≡ length rounds → ⊥) → 0 < length winners
-some_winner a round Seen rounds marks winners last s apart = elim s.last_is [
+pub some_winner : (a : Arena) (Seen : ℕ → Type 0) (rounds marks : List Bool) (winners : List ℕ) (last : ℕ) → IsChosen a Seen rounds marks winners last → (last ≡ length rounds → ⊥) → 0 < length winners
+some_winner a Seen rounds marks winners last s apart = elim s.last_is [
   | inl none ↦ absurd (apart none.1)
   | inr l ↦ omega (arith, ap length l.2, length_push l.0 l.1)
 ]
@@ -358,3 +350,24 @@ ends_more a ids i id before here inside at q c = elim (Contains-push_cases (take
   | inl old ↦ before q old
   | inr same ↦ subst (HasEnds a) same here
 ]
+
+-- ---- one id alone
+
+one_is : (ids : List ℕ) (id : ℕ) → length ids ≡ 1 → id ≡ get_or ids 0 id → ids ≡ id ∷ []
+one_is [] id one at = absurd (omega (arith, one))
+one_is (x ∷ []) id one at = ap (λ y. y ∷ []) (sym at)
+one_is (x ∷ y ∷ ids) id one at = absurd (omega (arith, one))
+
+pub one_in : (ids : List ℕ) (id : ℕ) → length ids ≡ 1 → id ≡ get_or ids 0 id → Contains ids id
+one_in ids id one at = subst (λ js. Contains js id) (sym (one_is ids id one at)) (head_in id [])
+
+pub one_only : (ids : List ℕ) (id q : ℕ) → length ids ≡ 1 → id ≡ get_or ids 0 id → Contains ids q → q ≡ id
+one_only ids id q one at c = elim (contains_cons q id [] (subst (λ js. Contains js q) (one_is ids id one at) c)) [ inl same ↦ sym same | inr more ↦ absurd (let l : more.0 < 0 = more.1 in omega (arith, l)) ]
+
+pub chosen_one : (a : Arena) (ids : List ℕ) (won marks : List Bool) (winners later : List ℕ) (last result id : ℕ) (key : Key) → length ids ≡ 1 → id ≡ get_or ids 0 id → winners ≡ [] → last ≡ length won → place_of a id < length won → key ≡ key_of a id → IsConsidered a key last winners won later marks result → IsChosen a (Contains ids) won marks later result
+chosen_one a ids won marks winners later last result id key one at none end inside is considered =
+    let begun : IsChosen a (λ q. ⊥) won won winners last = subst (λ (ws : List ℕ). IsChosen a (λ q. ⊥) won won ws last) (sym none) (subst (λ l. IsChosen a (λ q. ⊥) won won [] l) (sym end) (chosen_none a (λ q. ⊥) won (λ q s. s))) in
+    chosen_same a (λ q. ⊥ ⊎ (q ≡ id)) (Contains ids) won marks later result (λ q. (
+      λ h. elim h [ inl gone ↦ absurd gone | inr same ↦ subst (Contains ids) (sym same) (one_in ids id one at) ],
+      λ c. inr (one_only ids id q one at c),
+    )) (chosen_more a (λ q. ⊥) won won winners last id begun (λ q gone. absurd gone) inside key later marks result is considered)

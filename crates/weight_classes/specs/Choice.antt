@@ -1,5 +1,5 @@
 -- Which ids of a class win. No public clause cites this module.
-use Rattle.std.specs.Prelude.{◌≡◌, ◌≢◌, ℕ, ◌+◌, ◌*◌, ◌<◌, ◌≤◌, ◌⊎◌, ◌↔◌, ⊤, List, [], ◌∷◌, ◌++◌, length, slice_index, slice_index_or, slice_set, Contains}
+use Rattle.std.specs.Prelude.{◌≡◌, ◌≢◌, ℕ, ◌+◌, ◌*◌, ◌<◌, ◌≤◌, ◌⊎◌, ◌↔◌, ⊤, List, [], ◌∷◌, ◌++◌, length, slice_index_or, slice_set, Bool, true, false, Contains}
 use Rattle.std.specs.declared.cmp.Ordering.TheVariants.{Less}
 use Rattle.path_arena.specs.Arena.{Arena, id_cmp}
 use Rattle.weight_classes.specs.declared.choice.Key.{Key}
@@ -31,25 +31,28 @@ pub record GivesWay (a : Arena) (id : ℕ) (old new : List ℕ) : Type 0 where
   pub was : old ≡ front ++ w ∷ []
   pub now : ((id_cmp a id w ≡ Less → ⊥) × (new ≡ old)) ⊎ ((id_cmp a id w ≡ Less) × (new ≡ front ++ id ∷ []))
 
+-- the pair of this place is won
+abbrev pub IsWonAt : List Bool → ℕ → Type 0
+IsWonAt won k = slice_index_or won k false ≡ true
+
 -- a key is taken into account: its pair is won now, or it was, by the last winner or before
-abbrev pub IsConsidered : Arena → ℕ → Key → ℕ → List ℕ → List ℕ → List ℕ → List ℕ → ℕ → Type 0
-IsConsidered a round key last winners rounds later marks result =
-    ((slice_index rounds key.place ≢ round) × (later ≡ winners ++ key.id ∷ []) × (marks ≡ slice_set rounds key.place round) × (result ≡ key.place))
-    ⊎ ((slice_index rounds key.place ≡ round) × (marks ≡ rounds) × (result ≡ last) × (((last ≢ key.place) × (later ≡ winners)) ⊎ ((last ≡ key.place) × GivesWay a key.id winners later)))
+abbrev pub IsConsidered : Arena → Key → ℕ → List ℕ → List Bool → List ℕ → List Bool → ℕ → Type 0
+IsConsidered a key last winners won later marks result =
+    ((IsWonAt won key.place → ⊥) × (later ≡ winners ++ key.id ∷ []) × (marks ≡ slice_set won key.place true) × (result ≡ key.place))
+    ⊎ (IsWonAt won key.place × (marks ≡ won) × (result ≡ last) × (((last ≢ key.place) × (later ≡ winners)) ⊎ ((last ≡ key.place) × GivesWay a key.id winners later)))
 
 -- each place stands before those that follow
 abbrev pub AreRising : Arena → List ℕ → Type 0
 AreRising a [] = ⊤
 AreRising a (id ∷ ids) = ((q : ℕ) → Contains ids q → place_of a id < place_of a q) × AreRising a ids
 
--- the winners among the ids that Seen holds of; 'rounds' was before, and 'last' is the place of the last winner, if there is one
-pub record IsChosen (a : Arena) (round : ℕ) (Seen : ℕ → Type 0) (rounds marks winners : List ℕ) (last : ℕ) : Type 0 where
+-- the winners among the ids that Seen holds of; 'won' was before, and 'last' is the place of the last winner, if there is one
+pub record IsChosen (a : Arena) (Seen : ℕ → Type 0) (won marks : List Bool) (winners : List ℕ) (last : ℕ) : Type 0 where
   pub seen : (w : ℕ) → Contains winners w → Seen w
-  pub fresh : (w : ℕ) → Contains winners w → slice_index rounds (place_of a w) ≡ round → ⊥
+  pub fresh : (w : ℕ) → Contains winners w → IsWonAt won (place_of a w) → ⊥
   pub least : (w q : ℕ) → Contains winners w → Seen q → place_of a q ≡ place_of a w → id_cmp a q w ≡ Less → ⊥
-  pub each : (q : ℕ) → Seen q → (slice_index rounds (place_of a q) ≡ round) ⊎ ((w : ℕ) × Contains winners w × (place_of a w ≡ place_of a q))
+  pub each : (q : ℕ) → Seen q → IsWonAt won (place_of a q) ⊎ ((w : ℕ) × Contains winners w × (place_of a w ≡ place_of a q))
   pub rising : AreRising a winners
-  pub marked : (k : ℕ) → k < length rounds → (slice_index marks k ≡ round) ↔ ((slice_index rounds k ≡ round) ⊎ ((w : ℕ) × Contains winners w × (place_of a w ≡ k)))
-  pub bounded : ((k : ℕ) → slice_index rounds k ≤ round) → (k : ℕ) → slice_index marks k ≤ round
-  pub many : length marks ≡ length rounds
-  pub last_is : ((winners ≡ []) × (last ≡ length rounds)) ⊎ ((front : List ℕ) × (w : ℕ) × (winners ≡ front ++ w ∷ []) × (place_of a w ≡ last))
+  pub marked : (k : ℕ) → k < length won → IsWonAt marks k ↔ (IsWonAt won k ⊎ ((w : ℕ) × Contains winners w × (place_of a w ≡ k)))
+  pub many : length marks ≡ length won
+  pub last_is : ((winners ≡ []) × (last ≡ length won)) ⊎ ((front : List ℕ) × (w : ℕ) × (winners ≡ front ++ w ∷ []) × (place_of a w ≡ last))

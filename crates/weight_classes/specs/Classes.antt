@@ -1,36 +1,39 @@
--- The ids that are held by weight, the pairs that are won, and what taking a class gives.
-use Rattle.std.specs.Prelude.{◌≡◌, ◌≢◌, ℕ, ◌+◌, ◌*◌, ◌<◌, ◌≤◌, ◌⊎◌, ◌↔◌, ⊤, Bool, true, false, List, [], ◌∷◌, length, slice_index_or, unwrap_or, refl, Contains}
+-- The ids that are held by weight and number of edges, the pairs that are won, and what taking a class gives.
+use Rattle.std.specs.Prelude.{◌≡◌, ℕ, ◌+◌, ◌*◌, ◌<◌, ◌⊎◌, ◌↔◌, ⊤, Bool, true, false, List, [], ◌∷◌, ◌++◌, length, map, slice_index_or, unwrap_or, refl, Contains}
+use Rattle.std.specs.List.Sorted.{IsPermutation}
 use Rattle.std.specs.Ordering.{nat_cmp, ordering_then}
 use Rattle.std.specs.declared.cmp.Ordering.{Ordering}
 use Rattle.std.specs.declared.cmp.Ordering.TheVariants.{Less}
 use Rattle.std.specs.Coded.{Coded, code_by, coded×, coded_ℕ, coded_list, coded_bool}
-use Rattle.apsp_model.specs.Walk.{first, last}
+use Rattle.apsp_model.specs.Walk.{first, last, hops_of}
 use Rattle.path_arena.specs.Arena.{Arena, IsLive, list_of, weight_of, id_cmp}
 
--- the number of vertices, the weights that are held in rising order, each with its ids, and for each pair, row by row, whether it is won
+-- classes go by weight, and then by the number of edges
+pub record Rank : Type 0 where
+  pub weight : ℕ
+  pub hops : ℕ
+
+abbrev pub IsLower : Rank → Rank → Type 0
+IsLower r s = (r.weight < s.weight) ⊎ ((r.weight ≡ s.weight) × (r.hops < s.hops))
+
+-- the number of vertices, the ids that are held, each with its rank, and for each pair, row by row, whether it is won
 pub record Classes : Type 0 where
   pub vertices : ℕ
-  pub held : List (ℕ × List ℕ)
+  pub held : List (Rank × ℕ)
   pub won : List Bool
 
+abbrev pub rank_code : Coded Rank
+rank_code = code_by (ℕ × ℕ) (coded× coded_ℕ coded_ℕ) (λ r. (r.weight, r.hops)) (λ t. record { weight = t.0; hops = t.1 }) (λ _. refl)
+
 abbrev pub classes_code : Coded Classes
-classes_code = code_by (ℕ × (List (ℕ × List ℕ) × List Bool)) (coded× coded_ℕ (coded× (coded_list (coded× coded_ℕ (coded_list coded_ℕ))) (coded_list coded_bool))) (λ c. (c.vertices, (c.held, c.won))) (λ t. record { vertices = t.0; held = t.1.0; won = t.1.1 }) (λ _. refl)
+classes_code = code_by (ℕ × (List (Rank × ℕ) × List Bool)) (coded× coded_ℕ (coded× (coded_list (coded× rank_code coded_ℕ)) (coded_list coded_bool))) (λ c. (c.vertices, (c.held, c.won))) (λ t. record { vertices = t.0; held = t.1.0; won = t.1.1 }) (λ _. refl)
 
 abbrev pub IsWon : Classes → ℕ → ℕ → Type 0
 IsWon c x y = slice_index_or c.won (x * c.vertices + y) false ≡ true
 
--- the id is held with this weight
-abbrev pub HoldsAt : List (ℕ × List ℕ) → ℕ → ℕ → Type 0
-HoldsAt [] w id = ⊥
-HoldsAt (b ∷ bs) w id = ((b.0 ≡ w) × Contains b.1 id) ⊎ HoldsAt bs w id
-
-abbrev pub IsHeld : Classes → ℕ → ℕ → Type 0
-IsHeld c w id = HoldsAt c.held w id
-
--- how many ids are held
-abbrev pub count_held : List (ℕ × List ℕ) → ℕ
-count_held [] = 0
-count_held (b ∷ bs) = length b.1 + count_held bs
+-- the id is held with this rank
+abbrev pub IsHeld : Classes → Rank → ℕ → Type 0
+IsHeld c r id = Contains c.held (r, id)
 
 abbrev pub first_of : Arena → ℕ → ℕ
 first_of a id = unwrap_or (first (list_of a id)) 0
@@ -45,30 +48,23 @@ SamePair a p q = (first_of a p ≡ first_of a q) × (last_of a p ≡ last_of a q
 abbrev pub pair_cmp : Arena → ℕ → ℕ → Ordering
 pair_cmp a p q = ordering_then (nat_cmp (first_of a p) (first_of a q)) (nat_cmp (last_of a p) (last_of a q))
 
--- the ids of one weight are live, and have this weight
-pub record IsBucket (a : Arena) (w : ℕ) (ids : List ℕ) : Type 0 where
-  pub some : 0 < length ids
-  pub live : (id : ℕ) → Contains ids id → IsLive a id
-  pub weight : (id : ℕ) → Contains ids id → weight_of a id ≡ w
+abbrev pub rank_of : Arena → ℕ → Rank
+rank_of a id = record { weight = weight_of a id; hops = hops_of (list_of a id) }
 
-abbrev pub AreBuckets : Arena → List (ℕ × List ℕ) → Type 0
-AreBuckets a [] = ⊤
-AreBuckets a (b ∷ bs) = IsBucket a b.0 b.1 × AreBuckets a bs
-
--- the arena has as many vertices, each held id is live in it, and what is kept of it is what the arena gives for it
+-- the arena has as many vertices, each held id is live in it, and its rank is what the arena gives for it
 pub record Fits (c : Classes) (a : Arena) : Type 0 where
   pub vertices : a.vertices ≡ c.vertices
-  pub buckets : AreBuckets a c.held
+  pub live : (r : Rank) (id : ℕ) → IsHeld c r id → IsLive a id
+  pub ranks : (r : Rank) (id : ℕ) → IsHeld c r id → rank_of a id ≡ r
 
--- a class that was taken: its weight, and its winners
+-- a class that was taken: its rank, and its winners
 pub record Taken : Type 0 where
-  pub weight : ℕ
+  pub rank : Rank
   pub winners : List ℕ
 
 -- holds one id more
 pub record IsPushed (old new : Classes) (a : Arena) (id : ℕ) : Type 0 where
-  pub held : (w q : ℕ) → IsHeld new w q ↔ (IsHeld old w q ⊎ ((w ≡ weight_of a id) × (q ≡ id)))
-  pub count : count_held new.held ≡ count_held old.held + 1
+  pub held : IsPermutation ((rank_of a id, id) ∷ old.held) new.held
   pub vertices : new.vertices ≡ old.vertices
   pub won : new.won ≡ old.won
 
@@ -85,18 +81,22 @@ pub record IsWinners (a : Arena) (won : ℕ → ℕ → Type 0) (Taken : ℕ →
   pub each : (q : ℕ) → Taken q → won (first_of a q) (last_of a q) ⊎ ((w : ℕ) × Contains winners w × SamePair a w q)
   pub in_order : InOrder a winners
 
--- all ids of the least weight are taken, and the pairs of their winners are won
-pub record IsPopped (old new : Classes) (a : Arena) (weight : ℕ) (winners : List ℕ) : Type 0 where
-  pub some : (id : ℕ) × IsHeld old weight id
-  pub least : (w q : ℕ) → IsHeld old w q → weight ≤ w
-  pub rest : (w q : ℕ) → IsHeld new w q ↔ (IsHeld old w q × (w ≢ weight))
-  pub fewer : count_held new.held < count_held old.held
-  pub are_winners : IsWinners a (IsWon old) (IsHeld old weight) winners
+-- these ids, each with this rank
+abbrev pub ranked : Rank → List ℕ → List (Rank × ℕ)
+ranked r ids = map (λ id. (r, id)) ids
+
+-- what was held is the class, which has this rank, and what is still held, which ranks higher; the pairs of the winners are won
+pub record IsPopped (old new : Classes) (a : Arena) (rank : Rank) (winners : List ℕ) : Type 0 where
+  pub class : List ℕ
+  pub some : 0 < length class
+  pub held : IsPermutation old.held (ranked rank class ++ new.held)
+  pub above : (r : Rank) (id : ℕ) → IsHeld new r id → IsLower rank r
+  pub are_winners : IsWinners a (IsWon old) (Contains class) winners
   pub vertices : new.vertices ≡ old.vertices
   pub won : (x y : ℕ) → x < old.vertices → y < old.vertices → IsWon new x y ↔ (IsWon old x y ⊎ ((w : ℕ) × Contains winners w × (first_of a w ≡ x) × (last_of a w ≡ y)))
 
--- the two arenas have as many vertices, and each held id is live in the second with the weight that it has in the first
+-- the two arenas have as many vertices, and each held id is live in the second with the rank that it has in the first
 pub record AgreeOnHeld (c : Classes) (a b : Arena) : Type 0 where
   pub vertices : b.vertices ≡ a.vertices
-  pub live : (w id : ℕ) → IsHeld c w id → IsLive b id
-  pub weights : (w id : ℕ) → IsHeld c w id → weight_of b id ≡ weight_of a id
+  pub live : (r : Rank) (id : ℕ) → IsHeld c r id → IsLive b id
+  pub ranks : (r : Rank) (id : ℕ) → IsHeld c r id → rank_of b id ≡ rank_of a id

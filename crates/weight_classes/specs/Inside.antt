@@ -1,37 +1,116 @@
 -- How the fields of classes show what they hold. No public clause cites this module.
-use Rattle.std.specs.Prelude.{◌≡◌, ℕ, ◌+◌, ◌*◌, ◌<◌, ◌≤◌, ◌==◌, Bool, ◌⊎◌, ◌↔◌, ⊤, List, [], ◌∷◌, length, map, vec_len, vec_capacity, slice_index}
-use Rattle.smallvec.specs.SmallVec.{SmallVec}
+use Rattle.std.specs.Prelude.{◌≡◌, ℕ, ◌+◌, ◌-◌, ◌*◌, ◌<◌, ◌≤◌, ◌≢◌, ◌⊎◌, ◌/◌, ◌%◌, bit_and, List, [], ◌∷◌, ◌++◌, length, map, vec_len, vec_capacity, slice_index, slice_index_or, Contains}
+use Rattle.std.specs.BinaryHeap.{IsHeap, heap_items}
+use Rattle.std.specs.Ordering.{nat_cmp, ordering_then}
+use Rattle.std.specs.declared.cmp.Ordering.{Ordering}
+use Rattle.std.specs.declared.cmp.Reverse.{Reverse}
+use Rattle.weight_classes.specs.declared.buckets.Bucket.{Bucket}
 use Rattle.weight_classes.specs.declared.classes.Classes.TheInside.{Inside}
-use Rattle.weight_classes.specs.Classes.{Classes, HoldsAt, AreBuckets, count_held}
-use Rattle.path_arena.specs.Arena.{Arena, IsLive, weight_of}
+use Rattle.weight_classes.specs.declared.buckets.TheConstants.{NO_BUCKET}
+use Rattle.weight_classes.specs.Classes.{Classes, Rank, IsLower, ranked}
 
-abbrev pub bucket_of : ℕ × SmallVec ℕ → ℕ × List ℕ
-bucket_of e = (e.0, e.1.items)
+-- ---- buckets
 
-abbrev pub held_in : List (ℕ × SmallVec ℕ) → List (ℕ × List ℕ)
-held_in es = map bucket_of es
+abbrev pub rank_in : Bucket → Rank
+rank_in b = record { weight = b.weight; hops = b.hops }
 
--- for each pair, whether it was won in this round
-abbrev pub won_in : ℕ → List ℕ → List Bool
-won_in round rounds = map (λ r. r == round) rounds
+abbrev pub ranks_in : List Bucket → List Rank
+ranks_in bs = map rank_in bs
+
+abbrev pub nexts_in : List Bucket → List ℕ
+nexts_in bs = map (λ b. b.next) bs
+
+abbrev pub idss_in : List Bucket → List (List ℕ)
+idss_in bs = map (λ b. b.ids.items) bs
+
+abbrev pub no_rank : Rank
+no_rank = record { weight = 0; hops = 0 }
+
+abbrev pub rank_at : List Rank → ℕ → Rank
+rank_at rs i = slice_index_or rs i no_rank
+
+abbrev pub ids_at : List (List ℕ) → ℕ → List ℕ
+ids_at idss i = slice_index_or idss i []
+
+-- the ids of each bucket, with its rank
+abbrev pub held_by : List Rank → List (List ℕ) → List (Rank × ℕ)
+held_by [] idss = []
+held_by (r ∷ rs) [] = []
+held_by (r ∷ rs) (ids ∷ idss) = ranked r ids ++ held_by rs idss
+
+abbrev pub held_in : List Bucket → List (Rank × ℕ)
+held_in bs = held_by (ranks_in bs) (idss_in bs)
 
 abbrev pub view_of : Inside → Classes
-view_of c = record { vertices = c.n; held = held_in c.held.entries; won = won_in c.round c.won.items }
+view_of c = record { vertices = c.n; held = held_in c.buckets.items; won = c.won.items }
 
 -- no bucket has more ids than this
-abbrev pub AreRoomy : ℕ → List (ℕ × SmallVec ℕ) → Type 0
-AreRoomy most [] = ⊤
-AreRoomy most (e ∷ es) = (length e.1.items ≤ most) × AreRoomy most es
+abbrev pub AreRoomy : ℕ → List Bucket → Type 0
+AreRoomy most bs = (i : ℕ) → length (ids_at (idss_in bs) i) ≤ most
 
--- one id more is held with this weight
-pub record IsHeldMore (old new : List (ℕ × SmallVec ℕ)) (weight id : ℕ) : Type 0 where
-  pub held : (w q : ℕ) → HoldsAt (held_in new) w q ↔ (HoldsAt (held_in old) w q ⊎ ((w ≡ weight) × (q ≡ id)))
-  pub count : count_held (held_in new) ≡ count_held (held_in old) + 1
-  pub buckets : (a : Arena) → IsLive a id → weight_of a id ≡ weight → AreBuckets a (held_in old) → AreBuckets a (held_in new)
+-- one bucket more at most, which has no ids
+abbrev pub IsBucketAdded : List Bucket → List Bucket → Type 0
+IsBucketAdded old new = (new ≡ old) ⊎ ((b : Bucket) × (b.ids.items ≡ []) × (new ≡ old ++ b ∷ []))
 
--- there is a round for each pair, none was won in a later one, no bucket is empty, and none has more ids than there is room for keys
+-- ---- the bucket of a rank
+
+-- the cell of a rank
+unfoldable pub cell_of : ℕ → Rank → ℕ
+cell_of cells r = bit_and ((r.weight + r.hops) % 18446744073709551616 * 11400714819323198485 % 18446744073709551616 / 4294967296) (cells - 1)
+
+-- p is the last bucket of the cell below m, or none is
+abbrev pub IsLatest : ℕ → List Rank → ℕ → ℕ → ℕ → Type 0
+IsLatest cells rs cell p m =
+    ((p ≡ NO_BUCKET) × ((j : ℕ) → j < m → cell_of cells (rank_at rs j) ≢ cell))
+    ⊎ ((p < m) × (cell_of cells (rank_at rs p) ≡ cell) × ((j : ℕ) → p < j → j < m → cell_of cells (rank_at rs j) ≢ cell))
+
+pub record AreIndexed (cells : ℕ) (heads : List ℕ) (rs : List Rank) (nexts : List ℕ) : Type 0 where
+  pub some : 0 < cells
+  pub size : length heads ≡ cells
+  pub few : length rs ≤ NO_BUCKET
+  pub many : length nexts ≡ length rs
+  pub once : (i j : ℕ) → i < length rs → j < length rs → rank_at rs i ≡ rank_at rs j → i ≡ j
+  pub latest : (cell : ℕ) → cell < cells → IsLatest cells rs cell (slice_index heads cell) (length rs)
+  pub chained : (i : ℕ) → i < length rs → IsLatest cells rs (cell_of cells (rank_at rs i)) (slice_index nexts i) i
+
+abbrev pub IsIndexed : List ℕ → List Bucket → Type 0
+IsIndexed heads bs = AreIndexed (length heads) heads (ranks_in bs) (nexts_in bs)
+
+-- ---- which bucket comes next
+
+abbrev pub Turn : Type 0
+Turn = Reverse (ℕ × ℕ × ℕ)
+
+abbrev pub turn_cmp : Turn → Turn → Ordering
+turn_cmp x y = ordering_then (ordering_then (nat_cmp y.0.0 x.0.0) (nat_cmp y.0.1 x.0.1)) (nat_cmp y.0.2 x.0.2)
+
+-- the turn of a bucket with this rank
+abbrev pub turn_of : Rank → ℕ → Turn
+turn_of r i = record { 0 = (r.weight, r.hops, i) }
+
+-- the turns are of buckets, and each bucket with an id has one, but perhaps the one that But names
+pub record AreTurns (turns : List Turn) (rs : List Rank) (idss : List (List ℕ)) (But : ℕ → Type 0) : Type 0 where
+  pub ordered : IsHeap turn_cmp turns
+  pub many : length idss ≡ length rs
+  pub known : (t : Turn) → Contains turns t → (t.0.2 < length rs) × (rank_at rs t.0.2 ≡ record { weight = t.0.0; hops = t.0.1 })
+  pub each : (i : ℕ) → i < length rs → 0 < length (ids_at idss i) → But i ⊎ Contains turns (turn_of (rank_at rs i) i)
+
+abbrev pub IsQueue : List Turn → List Bucket → Type 0
+IsQueue turns bs = AreTurns turns (ranks_in bs) (idss_in bs) (λ i. ⊥)
+
+-- i is a bucket with ids, and each with ids ranks as high or higher; it has no turn any more
+pub record IsNext (turns : List Turn) (bs : List Bucket) (i : ℕ) : Type 0 where
+  pub inside : i < length bs
+  pub some : 0 < length (ids_at (idss_in bs) i)
+  pub least : (j : ℕ) → j < length bs → 0 < length (ids_at (idss_in bs) j) → IsLower (rank_at (ranks_in bs) j) (rank_at (ranks_in bs) i) → ⊥
+  pub queue : AreTurns turns (ranks_in bs) (idss_in bs) (λ j. j ≡ i)
+
+abbrev pub AreEmpty : List Bucket → Type 0
+AreEmpty bs = (i : ℕ) → length (ids_at (idss_in bs) i) ≡ 0
+
+-- whether each pair is won, and the ids of each rank, with room for the keys of as many as one has
 pub record IsSound (c : Inside) : Type 0 where
   pub pairs : vec_len c.won ≡ c.n * c.n
-  pub rounds : (k : ℕ) → slice_index c.won.items k ≤ c.round
-  pub room : AreRoomy (vec_capacity c.keys) c.held.entries
-  pub present : 0 < c.round
+  pub room : AreRoomy (vec_capacity c.keys) c.buckets.items
+  pub indexed : IsIndexed c.heads.items c.buckets.items
+  pub queue : IsQueue (heap_items c.queue) c.buckets.items

@@ -9,7 +9,7 @@ use path_arena::{Arena, PathId};
 use smallvec::SmallVec;
 use std::cmp::Ordering;
 
-/// Most weights have one id, so up to four stand in the list itself. With fewer it would be no
+/// Most classes have one id, so up to four stand in the list itself. With fewer it would be no
 /// smaller: the vector of a longer list needs that room.
 pub(crate) type Ids = SmallVec<PathId, 4>;
 
@@ -21,7 +21,7 @@ pub(crate) struct Key {
 }
 
 /// The keys of ids, by the places of their pairs. There is room for them.
-pub(crate) fn fill(keys: &mut Vec<Key>, arena: &Arena, n: u32, ids: &[PathId])
+fn fill(keys: &mut Vec<Key>, arena: &Arena, n: u32, ids: &[PathId])
     requires vertices { arena.now.vertices ≡ n }
     requires live { (q : ℕ) → Contains ids.now q → IsLive arena.now q }
     requires room { length ids.now ≤ vec_capacity keys.old }
@@ -48,50 +48,78 @@ fn make_key(arena: &Arena, n: u32, id: PathId) -> Key
     }
 }
 
-/// Puts the winners among the keys into the room that the ids had: of each pair that was not won
-/// the least, by the places of the pairs. Their pairs are won in this round.
-pub(crate) fn choose(
-    mut ids: Ids,
-    keys: &[Key],
-    won: &mut Vec<u32>,
-    round: u32,
+/// Puts the winners among the ids into their room, and makes their pairs won. There is room for keys.
+pub(crate) fn winners(
+    keys: &mut Vec<Key>,
+    won: &mut Vec<bool>,
     arena: &Arena,
+    n: u32,
+    ids: Ids,
 ) -> Ids
+    requires vertices { arena.now.vertices ≡ n }
+    requires live { (q : ℕ) → Contains ids.items q → IsLive arena.now q }
+    requires room { length ids.items ≤ vec_capacity keys.old }
+    requires pairs { vec_len won.old ≡ arena.now.vertices * arena.now.vertices }
+    ensures chosen { (last : ℕ) × IsChosen arena.now (Contains ids.items) won.old.items won.new.items result.items last }
+    ensures ends { (q : ℕ) → Contains ids.items q → HasEnds arena.now q }
+    ensures capacity { vec_capacity keys.old ≤ vec_capacity keys.new }
+{
+    // Most classes have one id, which needs no order.
+    if ids.len() == 1 {
+        return only(won, arena, n, ids);
+    }
+    fill(keys, arena, n, ids.as_slice());
+    choose(ids, keys, won, arena)
+}
+
+/// The same for one id.
+fn only(won: &mut Vec<bool>, arena: &Arena, n: u32, mut ids: Ids) -> Ids
+    requires vertices { arena.now.vertices ≡ n }
+    requires live { (q : ℕ) → Contains ids.items q → IsLive arena.now q }
+    requires one { length ids.items ≡ 1 }
+    requires pairs { vec_len won.old ≡ arena.now.vertices * arena.now.vertices }
+    ensures chosen { (last : ℕ) × IsChosen arena.now (Contains ids.items) won.old.items won.new.items result.items last }
+    ensures ends { (q : ℕ) → Contains ids.items q → HasEnds arena.now q }
+{
+    let key = make_key(arena, n, ids[0]);
+    prove!(ids.len() <= ids.capacity());
+    ids.clear();
+    let places = won.len();
+    consider(&mut ids, won, places, arena, key);
+    ids
+}
+
+/// Puts the winners among the keys into the room that the ids had: of each pair that was not won
+/// the least, by the places of the pairs. Their pairs are won.
+fn choose(mut ids: Ids, keys: &[Key], won: &mut Vec<bool>, arena: &Arena) -> Ids
     requires keys { AreKeys arena.now ids.items keys.now }
     requires live { (q : ℕ) → Contains ids.items q → IsLive arena.now q }
     requires pairs { vec_len won.old ≡ arena.now.vertices * arena.now.vertices }
-    ensures { (last : ℕ) × IsChosen arena.now round (Contains ids.items) won.old.items won.new.items result.items last }
+    ensures { (last : ℕ) × IsChosen arena.now (Contains ids.items) won.old.items won.new.items result.items last }
 {
     // There are no more winners than ids, so they take no memory.
     prove!(ids.len() <= ids.capacity());
     ids.clear();
     let mut last = won.len();
     'choosing: for &key in keys {
-        last = consider(&mut ids, won, round, last, arena, key);
+        last = consider(&mut ids, won, last, arena, key);
     }
     ids
 }
 
 /// Takes a key into account behind those of lower places, and gives the place of the last winner.
-fn consider(
-    winners: &mut Ids,
-    won: &mut Vec<u32>,
-    round: u32,
-    last: usize,
-    arena: &Arena,
-    key: Key,
-) -> usize
+fn consider(winners: &mut Ids, won: &mut Vec<bool>, last: usize, arena: &Arena, key: Key) -> usize
     requires inside { key.place < vec_len won.old }
     requires live { IsLive arena.now key.id }
     requires all_live { (q : ℕ) → Contains winners.old.items q → IsLive arena.now q }
     requires some { last ≡ key.place → 0 < small_vec_len winners.old }
     requires room { HasRoomFor winners.old 1 }
-    ensures considered { IsConsidered arena.now round key last winners.old.items won.old.items winners.new.items won.new.items result }
+    ensures considered { IsConsidered arena.now key last winners.old.items won.old.items winners.new.items won.new.items result }
     ensures capacity { winners.new.capacity ≡ winners.old.capacity }
     ensures len { small_vec_len winners.new ≤ small_vec_len winners.old + 1 }
 {
-    if won[key.place] != round {
-        won[key.place] = round;
+    if !won[key.place] {
+        won[key.place] = true;
         winners.push_reserved(key.id);
         return key.place;
     }

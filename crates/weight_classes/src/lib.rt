@@ -1,7 +1,8 @@
-//! Classes of path records by weight: the ids of the least weight are taken at once, with one winner
-//! for each pair of vertices.
+//! Classes of path records by weight and then by number of edges: the ids of the least weight that have
+//! the fewest edges are taken at once, with one winner for each pair of vertices.
 #![tactic(auto)]
 
+mod buckets;
 mod choice;
 mod classes;
 pub mod laws;

@@ -23,13 +23,15 @@ fn add(arena: &mut Arena, classes: &mut Classes, u: u32, v: u32, w: u32) -> Resu
     Ok(id)
 }
 
-/// Whether the next class has this weight and these winners.
-fn comes(arena: &Arena, classes: &mut Classes, weight: u64, winners: &[PathId]) -> bool
+/// Whether the next class has this weight, paths of this many edges and these winners.
+fn comes(arena: &Arena, classes: &mut Classes, weight: u64, hops: u32, winners: &[PathId]) -> bool
     requires { Fits classes.old arena.now }
     ensures { Fits classes.new arena.now }
 {
     let class = classes.pop_class(arena);
-    class.is_some_and(|class| class.weight() == weight && class.winners() == winners)
+    class.is_some_and(|class| {
+        class.weight() == weight && class.hops() == hops && class.winners() == winners
+    })
 }
 
 #[test]
@@ -40,9 +42,9 @@ fn three_classes(rt: HostRuntime) -> Result<(), Fail> {
     let early = add(&mut arena, &mut classes, 0, 1, 7)?;
     let other = add(&mut arena, &mut classes, 2, 0, 8)?;
     let _ = add(&mut arena, &mut classes, 0, 1, 9)?;
-    assert!(rt; comes(&arena, &mut classes, 7, &[early, late]));
-    assert!(rt; comes(&arena, &mut classes, 8, &[other]));
-    assert!(rt; comes(&arena, &mut classes, 9, &[]));
+    assert!(rt; comes(&arena, &mut classes, 7, 1, &[early, late]));
+    assert!(rt; comes(&arena, &mut classes, 8, 1, &[other]));
+    assert!(rt; comes(&arena, &mut classes, 9, 1, &[]));
     assert!(rt; classes.pop_class(&arena).is_none());
     classes.restart();
     assert!(rt; classes.pop_class(&arena).is_none());

@@ -5,8 +5,11 @@ use Rattle.path_book.specs.Book.{Book}
 use Rattle.extension_lists.specs.Known.{Known, IsKnown, sides_at}
 use Rattle.pair_heaps.proofs.Places.{on_ok}
 use Rattle.fixup.specs.Stages.{Stage, IsBetweenAt, IsJoiningAt}
-use Rattle.fixup.proofs.Winner.{pending, edge, staged, started, fronts_are, right_known, behinds_are, winner_over}
+use Rattle.fixup.proofs.Winner.{w_live, pending, edge, staged, started, fronts_are, right_known, behinds_are, winner_over}
 use Rattle.fixup.proofs.joins.promote.Goals as goal
+
+pub promote-requires-clause-live : goal.promote-requires-clause-live
+promote-requires-clause-live c = w_live c.args.birth c.args.winner c.args.book.now c.args.classes.now c.requires.ready.0 c.requires.ready.1
 
 pub promote-requires-clause-pending : goal.promote-requires-clause-pending
 promote-requires-clause-pending c = pending c.args.birth c.args.winner c.args.book.now c.args.classes.now c.requires.ready.0 c.requires.ready.1

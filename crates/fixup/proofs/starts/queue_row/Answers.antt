@@ -1,14 +1,14 @@
 use Rattle.std.proofs.Common.{ℕ, sym, ◌∙◌, subst, arith}
 use Rattle.pair_heaps.specs.Heaps.{HasEnds}
 use Rattle.path_book.specs.Book.{Book}
-use Rattle.weight_classes.specs.Classes.{Fits, IsHeld}
+use Rattle.weight_classes.specs.Classes.{Fits, IsHeld, Rank}
 use Rattle.fixup.specs.Starts.{IsHeadHeld}
 use Rattle.fixup.proofs.Heads.{head_fresh, queueing_step}
 use Rattle.fixup.proofs.starts.queue_row.Goals as goal
 
 pub queue_head-requires-clause-fresh : goal.queue_head-requires-clause-fresh
 queue_head-requires-clause-fresh c =
-    subst (λ (b : Book). (w id : ℕ) → IsHeld c.pairs.classes w id → HasEnds b.arena id c.args.x c.pairs.y → ⊥) (sym c.pairs.invariant.same)
+    subst (λ (b : Book). (r : Rank) (id : ℕ) → IsHeld c.pairs.classes r id → HasEnds b.arena id c.args.x c.pairs.y → ⊥) (sym c.pairs.invariant.same)
     (head_fresh c.args.book.now c.args.x c.pairs.y c.pairs.classes c.pairs.invariant.queueing)
 
 pub pairs-preserved : goal.pairs-preserved

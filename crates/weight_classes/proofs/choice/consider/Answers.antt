@@ -1,4 +1,4 @@
-use Rattle.std.proofs.Common.{◌≡◌, ◌∙◌, ◌-◌, List, ℕ, length, get_or, set, sym, subst, ap, inr, arith, refl}
+use Rattle.std.proofs.Common.{false, ◌≡◌, ◌∙◌, ◌-◌, List, ℕ, length, get_or, set, sym, subst, ap, inr, arith, refl}
 use Rattle.std.proofs.lemmas.List.{get_or_read, length-set}
 use Rattle.smallvec.proofs.SmallVecLemmas.{items-with_items}
 use Rattle.weight_classes.specs.Choice.{GivesWay}
@@ -12,7 +12,7 @@ returns-then-eq-clause-considered c =
     let end = c.len-end.result - 1 in
     let last = c.index-deref-end.result in
     inr (
-      sym (get_or_read c.args.won.now.items c.args.key.place c.index.result.now (omega (arith, c.requires.inside, c.args.won.now.ok.0)) c.index.ensures 0) ∙ c.if-index-round.false,
+      sym (get_or_read c.args.won.now.items c.args.key.place c.index.result.now (omega (arith, c.requires.inside, c.args.won.now.ok.0)) c.index.ensures false) ∙ c.if-not-index.false,
       refl,
       refl,
       inr (
