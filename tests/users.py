@@ -177,6 +177,9 @@ def commands_of_the_documents(program):
                     done = run(["bash", "-c", command], cwd=here.top)
                     same(done.stdout, output, f"{page}: {command}\n  {done.stderr[-600:]}")
                     found += 1
+        for block in re.findall(r"^```python\n(.*?)^```$", text_of("README.md"), re.M | re.S):
+            done = run([sys.executable, "-c", block], env=dict(os.environ, APSP_PROGRAM=program, PYTHONPATH=os.path.join(TOP, "clients", "python")))
+            same(done.stdout.splitlines(), re.findall(r"print\(.*\) +# (.*)", block), f"README.md: {block}\n{done.stderr[-600:]}")
     assert found >= 4, f"only {found} commands were found"
 
 
