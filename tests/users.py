@@ -197,6 +197,14 @@ def pictures_of_the_examples(program):
         same(verdict, "certificate yes 80", "the checker's verdict on the planner's certificate")
 
 
+def the_bench_says_what_is_missing(program):
+    bench = os.path.join(TOP, "bench", "run.py")
+    for named, words, wanted in (("/nonexistent", [], "/nonexistent is not built"), (program, ["dense17"], "there is no script dense17")):
+        done = run([sys.executable, "-B", bench, *words], env=dict(os.environ, APSP_PROGRAM=named))
+        same((done.returncode, done.stdout, len(done.stderr.splitlines())), (1, "", 1), words)
+        assert wanted in done.stderr, done.stderr
+
+
 def client_in_python(program):
     done = run([sys.executable, os.path.join(TOP, "clients", "python", "test_apsp.py")], env=dict(os.environ, APSP_PROGRAM=program))
     same(done.returncode, 0, done.stderr[-3000:])
@@ -221,7 +229,7 @@ def client_in_c(program):
 
 CHECKS = [help_builds_nothing, words_that_are_none_get_the_usage, a_link_leads_to_the_program, a_build_names_each_crate,
           a_build_that_fails_says_where_the_log_is, the_manual_has_the_usage, each_code_has_its_wrong_line,
-          explain_says_what_is_expected, commands_of_the_documents, pictures_of_the_examples, client_in_python, client_in_c]
+          explain_says_what_is_expected, commands_of_the_documents, the_bench_says_what_is_missing, pictures_of_the_examples, client_in_python, client_in_c]
 
 
 def checks(program, wanted=()):
