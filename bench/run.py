@@ -8,10 +8,11 @@ import threading
 import time
 
 TOP = os.path.dirname(os.path.dirname(os.path.abspath(__file__)))
-PROGRAM = os.path.join(TOP, "crates", "apsp", "out", "apsp")
+PROGRAM = os.environ.get("APSP_PROGRAM") or os.path.join(TOP, "crates", "apsp", "out", "apsp")
 GRIDS = {16: (4, 4), 60: (6, 10), 128: (8, 16)}
 CHANGES = 200
 QUESTIONS = 5
+AGAIN = 16
 
 
 def group(word, edges):
@@ -71,15 +72,28 @@ def sparse(n):
     return changed(n, edges, chance, lambda w: chance.randint(1, 1000))
 
 
+def complete(n):
+    """Every edge has weight 1, so every simple path of two edges is kept, which is the most that are kept."""
+    everyone = lambda v: [(u, 1) for u in range(n) if u != v]
+    stars = [star(v % n, everyone(v % n), everyone(v % n)) for v in range(n + AGAIN)]
+    return [f"vertices {n}"] + stars, n + AGAIN
+
+
 SCRIPTS = {f"{kind.__name__}{n}": (kind, n)
            for kind, sizes in ((dense, (16, 32, 64, 128)), (road, (16, 60, 128)), (sparse, (16, 64, 128)))
            for n in sizes}
+WORST = {f"complete{n}": (complete, n) for n in (16, 32, 64, 128)}
 
 
-def measured(text, words):
-    """Seconds, peak kilobytes and kept paths. The input is closed only once the memory was read, behind the last reply."""
+def text_of(lines):
+    return ("\n".join(lines + ["stats"]) + "\n").encode()
+
+
+def measured(text, command):
+    """Seconds by the clock, processor seconds, peak kilobytes and kept paths. The input is closed only once these were
+    read, behind the last reply."""
     start = time.perf_counter()
-    with subprocess.Popen([PROGRAM, "run"] + words, stdin=subprocess.PIPE, stdout=subprocess.PIPE, bufsize=-1) as child:
+    with subprocess.Popen(command, stdin=subprocess.PIPE, stdout=subprocess.PIPE, bufsize=-1) as child:
         writer = threading.Thread(target=lambda: (child.stdin.write(text), child.stdin.flush()))
         writer.start()
         for line in child.stdout:
@@ -89,20 +103,34 @@ def measured(text, words):
         writer.join()
         with open(f"/proc/{child.pid}/status", encoding="ascii") as status:
             memory = next(int(entry.split()[1]) for entry in status if entry.startswith("VmHWM"))
+        with open(f"/proc/{child.pid}/schedstat", encoding="ascii") as spent:
+            processor = int(spent.read().split()[0]) / 1e9
         child.stdin.close()
-    return seconds, memory, int(line.split()[6])
+    return seconds, processor, memory, int(line.split()[6])
+
+
+def stop_unless_ready(names):
+    """Says what is missing, and ends, where the program is not built, a script has no such name or the system has no /proc."""
+    if not os.access(PROGRAM, os.X_OK):
+        sys.exit(f"bench: {PROGRAM} is not built: run ./apsp < /dev/null first, or name another program in APSP_PROGRAM")
+    unknown = [name for name in names if name not in SCRIPTS and name not in WORST]
+    if unknown:
+        sys.exit(f"bench: there is no script {' '.join(unknown)}; there are {' '.join([*SCRIPTS, *WORST])}")
+    if not os.path.exists("/proc/self/schedstat"):
+        sys.exit("bench: this system has no /proc/PID/schedstat, where time and memory are read")
 
 
 def main():
     names = sys.argv[1:] or list(SCRIPTS)
-    print(f"{'script':<11}{'smooth':<8}{'updates':>8}{'seconds':>9}{'ms/update':>11}{'paths':>9}{'peak MB':>9}")
+    stop_unless_ready(names)
+    print(f"{'script':<12}{'smooth':<8}{'updates':>8}{'seconds':>9}{'ms/update':>11}{'paths':>9}{'peak MB':>9}")
     for name in names:
-        kind, n = SCRIPTS[name]
+        kind, n = SCRIPTS.get(name) or WORST[name]
         lines, updates = kind(n)
-        text = ("\n".join(lines + ["stats"]) + "\n").encode()
+        text = text_of(lines)
         for words in ([], ["--smooth"]):
-            seconds, memory, paths = min(measured(text, words) for _ in range(3))
-            print(f"{name:<11}{'on' if words else 'off':<8}{updates:>8}{seconds:>9.3f}{1000 * seconds / updates:>11.3f}"
+            seconds, _, memory, paths = min(measured(text, [PROGRAM, "run"] + words) for _ in range(3))
+            print(f"{name:<12}{'on' if words else 'off':<8}{updates:>8}{seconds:>9.3f}{1000 * seconds / updates:>11.3f}"
                   f"{paths:>9}{memory / 1024:>9.1f}", flush=True)
 
 

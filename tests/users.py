@@ -177,6 +177,9 @@ def commands_of_the_documents(program):
                     done = run(["bash", "-c", command], cwd=here.top)
                     same(done.stdout, output, f"{page}: {command}\n  {done.stderr[-600:]}")
                     found += 1
+        for block in re.findall(r"^```python\n(.*?)^```$", text_of("README.md"), re.M | re.S):
+            done = run([sys.executable, "-c", block], env=dict(os.environ, APSP_PROGRAM=program, PYTHONPATH=os.path.join(TOP, "clients", "python")))
+            same(done.stdout.splitlines(), re.findall(r"print\(.*\) +# (.*)", block), f"README.md: {block}\n{done.stderr[-600:]}")
     assert found >= 4, f"only {found} commands were found"
 
 
@@ -192,6 +195,14 @@ def pictures_of_the_examples(program):
         if verdict == "this program has no certificates":
             raise Skip(verdict)
         same(verdict, "certificate yes 80", "the checker's verdict on the planner's certificate")
+
+
+def the_bench_says_what_is_missing(program):
+    bench = os.path.join(TOP, "bench", "run.py")
+    for named, words, wanted in (("/nonexistent", [], "/nonexistent is not built"), (program, ["dense17"], "there is no script dense17")):
+        done = run([sys.executable, "-B", bench, *words], env=dict(os.environ, APSP_PROGRAM=named))
+        same((done.returncode, done.stdout, len(done.stderr.splitlines())), (1, "", 1), words)
+        assert wanted in done.stderr, done.stderr
 
 
 def client_in_python(program):
@@ -218,7 +229,7 @@ def client_in_c(program):
 
 CHECKS = [help_builds_nothing, words_that_are_none_get_the_usage, a_link_leads_to_the_program, a_build_names_each_crate,
           a_build_that_fails_says_where_the_log_is, the_manual_has_the_usage, each_code_has_its_wrong_line,
-          explain_says_what_is_expected, commands_of_the_documents, pictures_of_the_examples, client_in_python, client_in_c]
+          explain_says_what_is_expected, commands_of_the_documents, the_bench_says_what_is_missing, pictures_of_the_examples, client_in_python, client_in_c]
 
 
 def checks(program, wanted=()):

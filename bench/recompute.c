@@ -1,0 +1,201 @@
+/* Answers dist, row and path of a script as one would without apsp: all pairs are computed anew after each update.
+ *
+ *     recompute floyd|dijkstra < SCRIPT
+ *
+ * A walk's key is its weight times 256 plus its number of edges, below 2^48, so doubles hold it exactly and its order is
+ * that of weight, then edges. Among walks of one key the least list is found vertex by vertex. stats counts updates alone. */
+#include <stdint.h>
+#include <stdio.h>
+#include <stdlib.h>
+#include <string.h>
+
+enum { MOST = 128 };
+static const double NONE = 1e300;
+
+static int n;
+static double edge[MOST][MOST], least[MOST][MOST];
+static long updates;
+
+/* Without a branch, so that the compiler makes vector instructions of it. */
+static void floyd(void) {
+    memcpy(least, edge, sizeof edge);
+    for (int v = 0; v < n; v++) {
+        least[v][v] = 0;
+    }
+    for (int k = 0; k < n; k++) {
+        for (int x = 0; x < n; x++) {
+            double to = least[x][k];
+            if (x == k || to >= NONE) {
+                continue;
+            }
+            for (int y = 0; y < MOST; y++) {
+                double by = to + least[k][y];
+                least[x][y] = by < least[x][y] ? by : least[x][y];
+            }
+        }
+    }
+}
+
+struct entry {
+    double key;
+    int vertex;
+};
+static struct entry heap[MOST * MOST];
+static int held;
+
+static void push(double key, int vertex) {
+    int at = held++;
+    while (at > 0 && heap[(at - 1) / 2].key > key) {
+        heap[at] = heap[(at - 1) / 2];
+        at = (at - 1) / 2;
+    }
+    heap[at] = (struct entry){key, vertex};
+}
+
+static struct entry pop(void) {
+    struct entry top = heap[0], last = heap[--held];
+    int at = 0;
+    for (int below = 1; below < held; below = 2 * at + 1) {
+        below += below + 1 < held && heap[below + 1].key < heap[below].key;
+        if (last.key <= heap[below].key) {
+            break;
+        }
+        heap[at] = heap[below];
+        at = below;
+    }
+    heap[at] = last;
+    return top;
+}
+
+static void dijkstra(void) {
+    static int to[MOST][MOST], degree[MOST];
+    for (int u = 0; u < n; u++) {
+        degree[u] = 0;
+        for (int v = 0; v < n; v++) {
+            if (edge[u][v] < NONE) {
+                to[u][degree[u]++] = v;
+            }
+        }
+    }
+    for (int x = 0; x < n; x++) {
+        for (int y = 0; y < n; y++) {
+            least[x][y] = NONE;
+        }
+        least[x][x] = 0;
+        push(0, x);
+        while (held > 0) {
+            struct entry top = pop();
+            if (top.key > least[x][top.vertex]) {
+                continue;
+            }
+            for (int i = 0; i < degree[top.vertex]; i++) {
+                int v = to[top.vertex][i];
+                double key = top.key + edge[top.vertex][v];
+                if (key < least[x][v]) {
+                    least[x][v] = key;
+                    push(key, v);
+                }
+            }
+        }
+    }
+}
+
+static void set(int u, int v, double weight) { edge[u][v] = weight * 256 + 1; }
+
+static void put_distance(int x, int y) {
+    if (least[x][y] >= NONE) {
+        printf(" none");
+    } else {
+        printf(" %ld", (long)(least[x][y] / 256));
+    }
+}
+
+static void put_walk(int x, int y) {
+    printf(" walk %d", x);
+    while (x != y) {
+        int next = 0;
+        while (next == x || least[x][y] != edge[x][next] + least[next][y]) {
+            next++;
+        }
+        printf(" %d", x = next);
+    }
+}
+
+/* Makes the update that a line stands for, if it is one. */
+static int update(char **words, int count) {
+    if (strcmp(words[0], "star") == 0) {
+        int v = atoi(words[1]), out = 1;
+        for (int u = 0; u < n; u++) {
+            edge[v][u] = edge[u][v] = NONE;
+        }
+        for (int i = 2; i < count; i++) {
+            char *colon = strchr(words[i], ':');
+            if (!colon) {
+                out = words[i][0] == 'o';
+            } else if (out) {
+                set(v, atoi(words[i]), atof(colon + 1));
+            } else {
+                set(atoi(words[i]), v, atof(colon + 1));
+            }
+        }
+    } else if (strcmp(words[0], "edge") == 0) {
+        set(atoi(words[1]), atoi(words[2]), atof(words[3]));
+    } else if (strcmp(words[0], "cut") == 0) {
+        edge[atoi(words[1])][atoi(words[2])] = NONE;
+    } else {
+        return 0;
+    }
+    updates++;
+    return 1;
+}
+
+static void answer(char **words, void (*compute)(void)) {
+    int x = words[1] ? atoi(words[1]) : 0, y = words[1] && words[2] ? atoi(words[2]) : 0;
+    if (strcmp(words[0], "vertices") == 0) {
+        n = x;
+        for (int u = 0; u < MOST; u++) {
+            for (int v = 0; v < MOST; v++) {
+                edge[u][v] = NONE;
+            }
+        }
+        compute();
+    } else if (strcmp(words[0], "row") == 0) {
+        printf("row %d", x);
+        for (y = 0; y < n; y++) {
+            put_distance(x, y);
+        }
+        puts("");
+    } else if (strcmp(words[0], "stats") == 0) {
+        printf("stats updates %ld steps 0 paths 0 historical 0 formed 0 removed 0\n", updates);
+    } else {
+        printf("%s %d %d", words[0], x, y);
+        put_distance(x, y);
+        if (words[0][0] == 'p' && least[x][y] < NONE) {
+            put_walk(x, y);
+        }
+        puts("");
+    }
+    fflush(stdout);
+}
+
+int main(int count, char **given) {
+    void (*compute)(void) = count == 2 && strcmp(given[1], "dijkstra") == 0 ? dijkstra : floyd;
+    static char line[65600];
+    static char *words[70000];
+    while (fgets(line, sizeof line, stdin)) {
+        int many = 0;
+        for (char *word = strtok(line, " \t\r\n"); word; word = strtok(NULL, " \t\r\n")) {
+            words[many++] = word;
+        }
+        words[many] = words[many + 1] = NULL;
+        if (many == 0 || words[0][0] == '#') {
+            continue;
+        }
+        if (update(words, many)) {
+            compute();
+        } else {
+            answer(words, compute);
+        }
+    }
+    return 0;
+}
