@@ -133,6 +133,11 @@ def the_manual_has_the_usage(_program):
     same([line for line in heads if line != "name"], usage, "docs/apsp.1 beside wrapper/usage.txt")
 
 
+def the_reading_list_is_that_of_the_sources(_program):
+    done = run([sys.executable, "-B", os.path.join(HERE, "reading_list.py"), "--check"])
+    same((done.returncode, done.stderr), (0, ""), "CONTRIBUTING.md")
+
+
 def wrong_lines():
     for code, line, reply, expected in re.findall(r"^\| (\d+) \| (.*) \| `(line .*)` \| (.*) \|$", text_of("docs", "FORMATS.md"), re.M):
         yield int(code), "x" * 65537 if code == "10" else line.strip("`"), reply, expected
@@ -228,7 +233,7 @@ def client_in_c(program):
 
 
 CHECKS = [help_builds_nothing, words_that_are_none_get_the_usage, a_link_leads_to_the_program, a_build_names_each_crate,
-          a_build_that_fails_says_where_the_log_is, the_manual_has_the_usage, each_code_has_its_wrong_line,
+          a_build_that_fails_says_where_the_log_is, the_manual_has_the_usage, the_reading_list_is_that_of_the_sources, each_code_has_its_wrong_line,
           explain_says_what_is_expected, commands_of_the_documents, the_bench_says_what_is_missing, pictures_of_the_examples, client_in_python, client_in_c]
 
 
