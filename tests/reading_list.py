@@ -1,4 +1,4 @@
-"""The reading list of the headline: the definitions that the clause `answered` of `apsp_service::top` rests on, in reading order.
+"""The reading list of the headline: the definitions that the clause `answered` of `apsp_service::top` rests on.
 
     tests/reading_list.py            prints it
     tests/reading_list.py --write    puts it into CONTRIBUTING.md
@@ -83,8 +83,8 @@ class List:
             self.enter(path, name)
         elif ".declared." in module and module.split(".")[0] not in ("std", "core"):
             crate = module.split(".")[0]
-            kind = "TheConstants" if module.endswith("TheConstants") else module.split(".declared.")[1].split(".TheVariants")[0].split(".")[-1]
-            self.named.setdefault(os.path.join(crate, "src"), set()).add(name if kind == "TheConstants" else kind)
+            declared = module.split(".declared.")[1].split(".TheVariants")[0].split(".")[-1]
+            self.named.setdefault(os.path.join(crate, "src"), set()).add(name if declared == "TheConstants" else declared)
 
     def enter(self, path, name):
         if name in self.named.setdefault(path, set()):
