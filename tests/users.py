@@ -13,12 +13,9 @@ TOP = os.path.dirname(HERE)
 SECONDS = 120
 
 FAKE_RT = """#!/bin/sh
-# Stands for the prover: says what it would say of two crates, and leaves the program.
-echo "crate low: modules loaded=0 checked=1"
-echo "logic=proved functions=1"
-sleep 0.2
-echo "crate apsp: modules loaded=0 checked=1"
-echo "logic=%s functions=1"
+# Stands for the prover: leaves what it would leave of a library, and then of the program.
+mkdir -p ../low/out/rlib && touch ../low/out/rlib/stamp
+sleep 0.7
 %s
 """
 
@@ -52,7 +49,7 @@ class Checkout:
         for name in ("apsp", "VERSION"):
             shutil.copy2(os.path.join(TOP, name), self.top)
         with open(os.path.join(self.top, "crates.txt"), "w", encoding="ascii") as file:
-            file.write("low:\napsp: low\n")
+            file.write("low:\naside: low\napsp: low\n")
         for folder in ("src", "specs", "proofs"):
             os.makedirs(os.path.join(self.top, "crates", "apsp", folder))
         if program:
@@ -69,13 +66,13 @@ class Checkout:
     def apsp(self, *words, **how):
         return run([os.path.join(self.top, "apsp"), *words], **how)
 
-    def with_rt(self, status, leaves):
+    def with_rt(self, leaves):
         """The environment with a prover that is none, or with none at all."""
         folder = os.path.join(self.top, "bin")
         os.makedirs(folder, exist_ok=True)
         rt = os.path.join(folder, "rt")
         with open(rt, "w", encoding="ascii") as file:
-            file.write(FAKE_RT % (status, leaves))
+            file.write(FAKE_RT % leaves)
         os.chmod(rt, 0o755)
         return dict(os.environ, PATH=f"{folder}:/usr/bin:/bin", TMPDIR=self.top)
 
@@ -109,21 +106,22 @@ def a_link_leads_to_the_program(program):
 def a_build_names_each_crate(program):
     with Checkout() as here:
         leaves = f"mkdir -p out && cp {shlex.quote(program)} out/apsp"
-        done = here.apsp(input="vertices 2\ndist 0 1\n", env=here.with_rt("proved", leaves))
+        done = here.apsp(input="vertices 2\ndist 0 1\n", env=here.with_rt(leaves))
         same((done.returncode, done.stdout), (0, "dist 0 1 none\n"), "what is built runs")
         told = done.stderr.splitlines()
         same(told[1:], ["apsp: low is proved (1 of 2)", "apsp: apsp is proved (2 of 2)"], "the crates")
         log = told[0].split()[-1]
-        same((os.path.dirname(log), os.path.exists(log)), (here.top, False), "the log is named, and removed at the end")
+        same((log.startswith(here.top), os.path.exists(log)), (True, False), "the log is named, and removed at the end")
 
 
 def a_build_that_fails_says_where_the_log_is(_program):
     with Checkout() as here:
-        done = here.apsp(input="vertices 2\n", env=here.with_rt("not-proved", "exit 1"))
+        done = here.apsp(input="vertices 2\n", env=here.with_rt("echo not proved; exit 1"))
         same((done.returncode, done.stdout), (127, ""), "no program")
         last = done.stderr.splitlines()[-1]
         log = last.split()[-1]
         same((last, os.path.exists(log)), (f"apsp: the build failed; the log is {log}", True), "the log stays")
+        same(done.stderr.splitlines()[-3:-1], ["apsp: low is proved (1 of 2)", "not proved"], "what was proved, and the log's end")
 
 
 def the_manual_has_the_usage(_program):
