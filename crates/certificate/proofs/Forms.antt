@@ -1,0 +1,156 @@
+-- The lines of edges and pairs, from the text to the map and back.
+use Rattle.std.specs.Prelude.{◌≡◌, ◌≢◌, ℕ, ◌-◌, ◌<◌, ◌≤◌, ◌^◌, Bool, true, false, not, ◌==◌, ◌&&◌, nat_lt, nat_le, if◌then◌else◌, List, [], ◌∷◌, Option, Some, None, refl}
+use Rattle.std.proofs.Common.{sym, ◌∙◌, ap, subst, arith}
+use Rattle.std.proofs.lemmas.Bool.Decides.{nat_tests}
+use Rattle.apsp_model.specs.declared.TheConstants.{MOST_VERTICES, LEAST_WEIGHT, MOST_WEIGHT}
+use Rattle.apsp_model.specs.Graph.{IsEdgeOf}
+use Rattle.apsp_model.specs.Stated.{Entry, IsEntryOf}
+use Rattle.certificate.specs.Cuts.{◌and_then◌, numbers_in}
+use Rattle.certificate.specs.Grammar.{spaced, edge_line, pair_line}
+use Rattle.certificate.specs.Reading.{edge_of, pair_of, edge_in, pair_in, ends_fit, edge_fits, entry_fits, pair_fits}
+use Rattle.certificate.specs.Answer.{if_fits}
+use Rattle.certificate.proofs.Cutting.{avoids}
+use Rattle.certificate.proofs.Spellings.{joint, some_same, AreSmall, AreNumbers, numbers_parts, numbers_again, spaced_avoids}
+
+pub fits_if : {V : Type 0} (fits : (ℕ × ℕ) × V → Bool) (o : Option ((ℕ × ℕ) × V)) (e : (ℕ × ℕ) × V) → Some e ≡ if_fits fits o → fits e ≡ true
+fits_if fits None e h = cc
+fits_if fits (Some p) e h = at (fits p) refl h
+  where
+    at : (b : Bool) → fits p ≡ b → Some e ≡ (if b then Some p else None) → fits e ≡ true
+    at true t h = let same : e ≡ p = some_same e p h in ap fits same ∙ t
+    at false t h = cc
+
+-- the item is the one that the numbers say
+pub item_if : {V : Type 0} (fits : (ℕ × ℕ) × V → Bool) (o : Option ((ℕ × ℕ) × V)) (e : (ℕ × ℕ) × V) → Some e ≡ if_fits fits o → o ≡ Some e
+item_if fits None e h = cc
+item_if fits (Some p) e h = at (fits p) h
+  where
+    at : (b : Bool) → Some e ≡ (if b then Some p else None) → Some p ≡ Some e
+    at true h = sym h
+    at false h = cc
+
+-- ---- what the numbers of a line say
+
+record IsEdgeRow (ks : List ℕ) (e : (ℕ × ℕ) × ℕ) : Type 0 where
+  is : ks ≡ e.0.0 ∷ e.0.1 ∷ e.1 ∷ []
+
+edge_row : (ks : List ℕ) (e : (ℕ × ℕ) × ℕ) → edge_of ks ≡ Some e → IsEdgeRow ks e
+edge_row [] e h = cc
+edge_row (u ∷ []) e h = cc
+edge_row (u ∷ v ∷ []) e h = cc
+edge_row (u ∷ v ∷ w ∷ []) e h =
+    let made : IsEdgeRow (u ∷ v ∷ w ∷ []) ((u, v), w) = record { is = refl } in
+    subst (IsEdgeRow (u ∷ v ∷ w ∷ [])) (some_same ((u, v), w) e h) made
+edge_row (u ∷ v ∷ w ∷ x ∷ ks) e h = cc
+
+record IsPairRow (ks : List ℕ) (e : (ℕ × ℕ) × Entry) : Type 0 where
+  is : ks ≡ e.0.0 ∷ e.0.1 ∷ e.1.dist ∷ e.1.hops ∷ e.1.next ∷ []
+
+pair_row : (ks : List ℕ) (e : (ℕ × ℕ) × Entry) → pair_of ks ≡ Some e → IsPairRow ks e
+pair_row [] e h = cc
+pair_row (a ∷ []) e h = cc
+pair_row (a ∷ b ∷ []) e h = cc
+pair_row (a ∷ b ∷ c ∷ []) e h = cc
+pair_row (a ∷ b ∷ c ∷ d ∷ []) e h = cc
+pair_row (a ∷ b ∷ c ∷ d ∷ f ∷ []) e h =
+    let made : IsPairRow (a ∷ b ∷ c ∷ d ∷ f ∷ []) ((a, b), record { dist = c; hops = d; next = f }) = record { is = refl } in
+    subst (IsPairRow (a ∷ b ∷ c ∷ d ∷ f ∷ [])) (some_same ((a, b), record { dist = c; hops = d; next = f }) e h) made
+pair_row (a ∷ b ∷ c ∷ d ∷ f ∷ g ∷ ks) e h = cc
+
+pub pair_small : (fits : (ℕ × ℕ) × Entry → Bool) (line ks : List ℕ) (e : (ℕ × ℕ) × Entry) → numbers_in 5 line ≡ Some ks → Some e ≡ if_fits fits (pair_of ks) → e.1.dist < 10 ^ 18
+pair_small fits line ks e read h =
+    let row = pair_row ks e (item_if fits (pair_of ks) e h) in
+    let small : AreSmall ks = (numbers_parts 4 line ks read).small in
+    let there : AreSmall (e.0.0 ∷ e.0.1 ∷ e.1.dist ∷ e.1.hops ∷ e.1.next ∷ []) = subst AreSmall row.is small in
+    there.1.1.0
+
+-- ---- the ranges
+
+both : (a b : Bool) → (a && b) ≡ true → (a ≡ true) × (b ≡ true)
+both true b h = (refl, h)
+both false b h = cc
+
+ends_facts : (n u v : ℕ) → ends_fit n (u, v) ≡ true → (u < n) × (v < n) × (u ≢ v)
+ends_facts n u v h = (grind (arith, nat_tests), grind (arith, nat_tests), λ e. grind (arith, nat_tests))
+
+ends_test : (n u v : ℕ) → u < n → v < n → u ≢ v → ends_fit n (u, v) ≡ true
+ends_test n u v p q r = grind (arith, nat_tests)
+
+pub edge_from_test : (n : ℕ) (e : (ℕ × ℕ) × ℕ) → edge_fits n e ≡ true → IsEdgeOf n e.0.0 e.0.1 e.1
+edge_from_test n e h =
+    let s = both (ends_fit n e.0) (nat_le LEAST_WEIGHT e.1 && nat_le e.1 MOST_WEIGHT) h in
+    let ends = ends_facts n e.0.0 e.0.1 s.0 in
+    let w = weight e.1 s.1 in
+    record { from = ends.0; to = ends.1; apart = ends.2; least = w.0; most = w.1 }
+  where
+    weight : (w : ℕ) → (nat_le 1 w && nat_le w 4294967295) ≡ true → (1 ≤ w) × (w ≤ 4294967295)
+    weight w h = (grind (arith, nat_tests), grind (arith, nat_tests))
+
+pub edge_test : (n : ℕ) (e : (ℕ × ℕ) × ℕ) → IsEdgeOf n e.0.0 e.0.1 e.1 → edge_fits n e ≡ true
+edge_test n e h =
+    ap (λ b. b && (nat_le LEAST_WEIGHT e.1 && nat_le e.1 MOST_WEIGHT)) (ends_test n e.0.0 e.0.1 h.from h.to h.apart)
+    ∙ weight e.1 h.least h.most
+  where
+    weight : (w : ℕ) → 1 ≤ w → w ≤ 4294967295 → (nat_le 1 w && nat_le w 4294967295) ≡ true
+    weight w p q = grind (arith, nat_tests)
+
+pub entry_from_test : (n : ℕ) (e : (ℕ × ℕ) × Entry) → pair_fits n e ≡ true → IsEntryOf n e.0.0 e.0.1 e.1
+entry_from_test n e h =
+    let s = both (ends_fit n e.0) (entry_fits n e.0.0 e.1) h in
+    let ends = ends_facts n e.0.0 e.0.1 s.0 in
+    let r = rest e.1.dist e.1.hops e.1.next e.0.0 s.1 in
+    record { from = ends.0; to = ends.1; apart = ends.2; dist = r.0; some_hops = r.1; most_hops = r.2; next = r.3; moves = r.4 }
+  where
+    rest : (d h z x : ℕ) → (nat_le 1 d && ((nat_le 1 h && nat_le h (n - 1)) && (nat_lt z n && not (z == x)))) ≡ true → (1 ≤ d) × (1 ≤ h) × (h ≤ n - 1) × (z < n) × (z ≢ x)
+    rest d h z x t = (grind (arith, nat_tests), grind (arith, nat_tests), grind (arith, nat_tests), grind (arith, nat_tests), λ e. grind (arith, nat_tests))
+
+pub entry_test : (n : ℕ) (e : (ℕ × ℕ) × Entry) → IsEntryOf n e.0.0 e.0.1 e.1 → pair_fits n e ≡ true
+entry_test n e h =
+    ap (λ b. b && entry_fits n e.0.0 e.1) (ends_test n e.0.0 e.0.1 h.from h.to h.apart)
+    ∙ rest e.1.dist e.1.hops e.1.next e.0.0 h.dist h.some_hops h.most_hops h.next h.moves
+  where
+    rest : (d h z x : ℕ) → 1 ≤ d → 1 ≤ h → h ≤ n - 1 → z < n → z ≢ x → (nat_le 1 d && ((nat_le 1 h && nat_le h (n - 1)) && (nat_lt z n && not (z == x)))) ≡ true
+    rest d h z x a b c f g = grind (arith, nat_tests)
+
+-- ---- the form of an item's line, for edges and for pairs
+
+-- what the item of a line looks like, where Few is what its digits say beyond its ranges
+pub record IsForm {V : Type 0} (item_in : List ℕ → Option ((ℕ × ℕ) × V)) (fits : (ℕ × ℕ) × V → Bool) (line : (ℕ × ℕ) × V → List ℕ) (Few : (ℕ × ℕ) × V → Type 0) : Type 0 where
+  pub parts : (l : List ℕ) (e : (ℕ × ℕ) × V) → item_in l ≡ Some e → (l ≡ line e) × Few e
+  pub again : (e : (ℕ × ℕ) × V) → fits e ≡ true → Few e → (item_in (line e) ≡ Some e) × (avoids 10 (line e) ≡ true)
+
+pub edges_form : (n : ℕ) → n ≤ MOST_VERTICES → IsForm edge_in (edge_fits n) edge_line (λ _. Unit {0})
+edges_form n most = record { parts = parts; again = again }
+  where
+    parts : (l : List ℕ) (e : (ℕ × ℕ) × ℕ) → edge_in l ≡ Some e → (l ≡ edge_line e) × Unit {0}
+    parts l e h =
+        let j = joint (numbers_in 3 l) edge_of e h in
+        let ks : AreNumbers 3 l j.value = numbers_parts 2 l j.value j.first in
+        (ks.text ∙ ap spaced (edge_row j.value e j.second).is, tt)
+
+    small : (e : (ℕ × ℕ) × ℕ) → IsEdgeOf n e.0.0 e.0.1 e.1 → AreSmall (e.0.0 ∷ e.0.1 ∷ e.1 ∷ [])
+    small e h = (omega (arith, h.from, most), (omega (arith, h.to, most), (omega (arith, h.most), tt)))
+
+    again : (e : (ℕ × ℕ) × ℕ) → edge_fits n e ≡ true → Unit {0} → (edge_in (edge_line e) ≡ Some e) × (avoids 10 (edge_line e) ≡ true)
+    again e h few =
+        let s : AreSmall (e.0.0 ∷ e.0.1 ∷ e.1 ∷ []) = small e (edge_from_test n e h) in
+        (ap (λ o. o and_then edge_of) (numbers_again e.0.0 (e.0.1 ∷ e.1 ∷ []) s), spaced_avoids (e.0.0 ∷ e.0.1 ∷ e.1 ∷ []) s)
+
+pub pairs_form : (n : ℕ) → n ≤ MOST_VERTICES → IsForm pair_in (pair_fits n) pair_line (λ e. e.1.dist < 10 ^ 18)
+pairs_form n most = record { parts = parts; again = again }
+  where
+    parts : (l : List ℕ) (e : (ℕ × ℕ) × Entry) → pair_in l ≡ Some e → (l ≡ pair_line e) × (e.1.dist < 10 ^ 18)
+    parts l e h =
+        let j = joint (numbers_in 5 l) pair_of e h in
+        let ks : AreNumbers 5 l j.value = numbers_parts 4 l j.value j.first in
+        let row = pair_row j.value e j.second in
+        let there : AreSmall (e.0.0 ∷ e.0.1 ∷ e.1.dist ∷ e.1.hops ∷ e.1.next ∷ []) = subst AreSmall row.is ks.small in
+        (ks.text ∙ ap spaced row.is, there.1.1.0)
+
+    small : (e : (ℕ × ℕ) × Entry) → IsEntryOf n e.0.0 e.0.1 e.1 → e.1.dist < 10 ^ 18 → AreSmall (e.0.0 ∷ e.0.1 ∷ e.1.dist ∷ e.1.hops ∷ e.1.next ∷ [])
+    small e h few = (omega (arith, h.from, most), (omega (arith, h.to, most), (few, (omega (arith, h.most_hops, most), (omega (arith, h.next, most), tt)))))
+
+    again : (e : (ℕ × ℕ) × Entry) → pair_fits n e ≡ true → e.1.dist < 10 ^ 18 → (pair_in (pair_line e) ≡ Some e) × (avoids 10 (pair_line e) ≡ true)
+    again e h few =
+        let s : AreSmall (e.0.0 ∷ e.0.1 ∷ e.1.dist ∷ e.1.hops ∷ e.1.next ∷ []) = small e (entry_from_test n e h) few in
+        (ap (λ o. o and_then pair_of) (numbers_again e.0.0 (e.0.1 ∷ e.1.dist ∷ e.1.hops ∷ e.1.next ∷ []) s), spaced_avoids (e.0.0 ∷ e.0.1 ∷ e.1.dist ∷ e.1.hops ∷ e.1.next ∷ []) s)

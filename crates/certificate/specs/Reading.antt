@@ -1,0 +1,129 @@
+-- What a text states, or the first line that is at fault and the test that it fails.
+use Rattle.std.specs.Prelude.{ℕ, zero, suc, ◌+◌, ◌-◌, ◌*◌, Bool, true, not, ◌==◌, ◌&&◌, ◌||◌, nat_lt, nat_le, if◌then◌else◌, List, [], ◌∷◌, length, codes, Option, Some, None, Result, Ok, Err}
+use Rattle.std.specs.FinMap as map
+use Rattle.std.specs.Str.{bytes_eq}
+use Rattle.apsp_model.specs.declared.TheConstants.{MOST_VERTICES, LEAST_WEIGHT, MOST_WEIGHT}
+use Rattle.apsp_model.specs.Graph.{pair_cmp}
+use Rattle.apsp_model.specs.Stated.{Stated, Entry}
+use Rattle.certificate.specs.declared.CertError.{CertError}
+use Rattle.certificate.specs.declared.CertError.TheVariants.{Shape, Order, Range}
+use Rattle.certificate.specs.Cuts.{cut, number_behind, numbers_in, ◌and_then◌}
+
+infixl 10 ◌>>=◌
+abbrev pub ◌>>=◌ : {A B : Type 0} → Result A CertError → (A → Result B CertError) → Result B CertError
+Ok x >>= f = f x
+Err e >>= f = Err e
+
+abbrev pub or_shape : {A : Type 0} → Option A → ℕ → Result A CertError
+or_shape (Some x) line = Ok x
+or_shape None line = Err (Shape line)
+
+-- the bytes that are left, and the number of the line that they begin with
+pub record Rest : Type 0 where
+  pub number : ℕ
+  pub bytes : List ℕ
+
+-- the next line, which a newline ends
+abbrev pub line_at : Rest → Result (List ℕ × Rest) CertError
+line_at r = or_shape (cut 10 r.bytes) r.number >>= (λ l. Ok (l.0, record { number = r.number + 1; bytes = l.1 }))
+
+-- a line that is this text
+abbrev pub fixed_line : List ℕ → Rest → Result Rest CertError
+fixed_line text r = line_at r >>= (λ l. if bytes_eq l.0 text then Ok l.1 else Err (Shape r.number))
+
+-- the number of a line that has it behind this word
+abbrev pub named_line : List ℕ → Rest → Result (ℕ × Rest) CertError
+named_line word r = line_at r >>= (λ l. or_shape (number_behind word l.0) r.number >>= (λ k. Ok (k, l.1)))
+
+abbrev pub vertices_line : Rest → Result (ℕ × Rest) CertError
+vertices_line r =
+    named_line (codes "vertices") r >>= (λ n. if nat_le 1 n.0 && nat_le n.0 MOST_VERTICES then Ok n else Err (Range r.number))
+
+-- a number of lines to come, which is at most so many
+abbrev pub count_line : List ℕ → ℕ → Rest → Result (ℕ × Rest) CertError
+count_line word most r = named_line word r >>= (λ k. if nat_le k.0 most then Ok k else Err (Range r.number))
+
+-- what the numbers of an edge's line and of a pair's line say
+abbrev pub edge_of : List ℕ → Option ((ℕ × ℕ) × ℕ)
+edge_of (u ∷ v ∷ w ∷ []) = Some ((u, v), w)
+edge_of _ = None
+
+abbrev pub pair_of : List ℕ → Option ((ℕ × ℕ) × Entry)
+pair_of (x ∷ y ∷ d ∷ h ∷ z ∷ []) = Some ((x, y), record { dist = d; hops = h; next = z })
+pair_of _ = None
+
+abbrev pub edge_in : List ℕ → Option ((ℕ × ℕ) × ℕ)
+edge_in line = numbers_in 3 line and_then edge_of
+
+abbrev pub pair_in : List ℕ → Option ((ℕ × ℕ) × Entry)
+pair_in line = numbers_in 5 line and_then pair_of
+
+-- two different vertices
+abbrev pub ends_fit : ℕ → ℕ × ℕ → Bool
+ends_fit n q = nat_lt q.0 n && (nat_lt q.1 n && not (q.0 == q.1))
+
+abbrev pub edge_fits : ℕ → (ℕ × ℕ) × ℕ → Bool
+edge_fits n e = ends_fit n e.0 && (nat_le LEAST_WEIGHT e.1 && nat_le e.1 MOST_WEIGHT)
+
+-- an entry of a pair from x
+abbrev pub entry_fits : ℕ → ℕ → Entry → Bool
+entry_fits n x e =
+    nat_le LEAST_WEIGHT e.dist && ((nat_le 1 e.hops && nat_le e.hops (n - 1)) && (nat_lt e.next n && not (e.next == x)))
+
+abbrev pub pair_fits : ℕ → (ℕ × ℕ) × Entry → Bool
+pair_fits n e = ends_fit n e.0 && entry_fits n e.0.0 e.1
+
+-- a pair stands above the one before it
+abbrev pub rises : Option (ℕ × ℕ) → ℕ × ℕ → Bool
+rises None q = true
+rises (Some p) q = nat_lt p.0 q.0 || (p.0 == q.0 && nat_lt p.1 q.1)
+
+-- the item of a line: its shape first, then its range, then its order
+abbrev pub item_line :
+    {V : Type 0} → (List ℕ → Option ((ℕ × ℕ) × V)) → ((ℕ × ℕ) × V → Bool) → Option (ℕ × ℕ) → Rest
+    → Result (((ℕ × ℕ) × V) × Rest) CertError
+item_line item_in fits before r =
+    line_at r >>= (λ l. or_shape (item_in l.0) r.number >>= (λ e.
+    if not (fits e) then Err (Range r.number) else (if rises before e.0 then Ok (e, l.1) else Err (Order r.number))))
+
+-- so many lines, whose items are put into the map
+abbrev pub items_onto :
+    {V : Type 0} → (List ℕ → Option ((ℕ × ℕ) × V)) → ((ℕ × ℕ) × V → Bool) → map.FinMap pair_cmp V → ℕ → Option (ℕ × ℕ) → Rest
+    → Result (map.FinMap pair_cmp V × Rest) CertError
+items_onto item_in fits m zero before r = Ok (m, r)
+items_onto item_in fits m (suc k) before r =
+    item_line item_in fits before r >>= (λ e. items_onto item_in fits (map.insert m e.0.0 e.0.1) k (Some e.0.0) e.1)
+
+-- the line that ends the text
+abbrev pub end_line : Rest → Result (Unit {0}) CertError
+end_line r = fixed_line (codes "end") r >>= (λ e. if length e.bytes == 0 then Ok tt else Err (Shape e.number))
+
+-- the first three lines: the number and the number of vertices
+pub record Head : Type 0 where
+  pub number : ℕ
+  pub vertices : ℕ
+  pub rest : Rest
+
+abbrev pub head_of : Rest → Result Head CertError
+head_of r =
+    fixed_line (codes "apsp certificate 1") r >>= (λ a.
+    named_line (codes "number") a >>= (λ k.
+    vertices_line k.1 >>= (λ n. Ok (record { number = k.0; vertices = n.0; rest = n.1 }))))
+
+-- a line with a count, and that many items
+abbrev pub table_of :
+    {V : Type 0} → List ℕ → (List ℕ → Option ((ℕ × ℕ) × V)) → ((ℕ × ℕ) × V → Bool) → ℕ → Rest
+    → Result (map.FinMap pair_cmp V × Rest) CertError
+table_of word item_in fits n r =
+    count_line word (n * (n - 1)) r >>= (λ k. items_onto item_in fits map.empty k.0 None k.1)
+
+abbrev pub body_of : Head → Result Stated CertError
+body_of h =
+    table_of (codes "edges") edge_in (edge_fits h.vertices) h.vertices h.rest >>= (λ es.
+    table_of (codes "pairs") pair_in (pair_fits h.vertices) h.vertices es.1 >>= (λ ps.
+    end_line ps.1 >>= (λ _.
+    Ok (record { number = h.number; graph = record { vertices = h.vertices; edges = es.0 }; entries = ps.0 }))))
+
+-- what the bytes state, or the first fault
+abbrev pub stated_by : List ℕ → Result Stated CertError
+stated_by bytes = head_of (record { number = 1; bytes = bytes }) >>= body_of

@@ -1,0 +1,29 @@
+-- The map of a table: what it says at each pair of numbers below n, row by row.
+use Rattle.std.specs.Prelude.{ℕ, zero, suc, List, [], ◌∷◌, ◌++◌, slice_index_or, Option, Some, None}
+use Rattle.std.specs.FinMap as map
+use Rattle.apsp_model.specs.Graph.{pair_cmp}
+
+abbrev pub item_list : {V : Type 0} → ℕ × ℕ → Option V → List ((ℕ × ℕ) × V)
+item_list q None = []
+item_list q (Some w) = (q, w) ∷ []
+
+-- what row u says below v
+abbrev pub row_items : {V : Type 0} → (ℕ → Option V) → ℕ → ℕ → List ((ℕ × ℕ) × V)
+row_items row u zero = []
+row_items row u (suc v) = row_items row u v ++ item_list (u, v) (row v)
+
+-- what the rows below u say below n
+abbrev pub table_items : {V : Type 0} → (ℕ → ℕ → Option V) → ℕ → ℕ → List ((ℕ × ℕ) × V)
+table_items f n zero = []
+table_items f n (suc u) = table_items f n u ++ row_items (f u) u n
+
+-- the items put into a map, one after the other
+abbrev pub insert_all : {V : Type 0} → map.FinMap pair_cmp V → List ((ℕ × ℕ) × V) → map.FinMap pair_cmp V
+insert_all m [] = m
+insert_all m (e ∷ es) = insert_all (map.insert m e.0 e.1) es
+
+unfoldable pub map_of : {V : Type 0} → ℕ → (ℕ → ℕ → Option V) → map.FinMap pair_cmp V
+map_of n f = insert_all map.empty (table_items f n n)
+
+abbrev pub cell_at : {A : Type 0} → List (Option A) → ℕ → Option A
+cell_at cells k = slice_index_or cells k None

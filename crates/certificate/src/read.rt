@@ -1,0 +1,93 @@
+//! A certificate that is read.
+ghost use Rattle.std.specs.Prelude.{◌≡◌, ◌+◌, ◌-◌, ◌*◌, ◌<◌, ◌≤◌, ◌^◌, IfOk, IsErrOf, codes, Ok, Option, None};
+ghost use Rattle.std.specs.FinMap as map;
+ghost use Rattle.apsp_model.specs.declared.TheConstants.{MOST_VERTICES};
+ghost use Rattle.apsp_model.specs.Graph.{no_edges};
+ghost use Rattle.apsp_model.specs.Stated.{Stated as Stated_model};
+ghost use Rattle.graph_store.specs.Making.{IsVertexCount};
+ghost use Rattle.certificate.specs.Grammar.{IsCertText};
+ghost use Rattle.certificate.specs.Reading.{body_of, stated_by};
+ghost use Rattle.certificate.specs.Answer.{rest_of, GivesOrMemory, IsEarly, ReadsEdges, ReadsPairs};
+
+use crate::items::{edge_line, pair_line};
+use crate::lines::{Head, Lines, count_line, end_line, head_of};
+use crate::stated::Stated;
+use crate::{CertError, MOST_DIGITS};
+use std::alloc::Global;
+
+/// What a certificate states. It takes memory once the line `vertices` has passed its tests, for two
+/// cells for each pair of these vertices.
+pub fn read_certificate(alloc: Global, bytes: &[u8]) -> Result<Stated, CertError>
+    // What is read is in the grammar.
+    ensures found { IfOk result (λ s. IsCertText s bytes.now) }
+    // What is in the grammar is read, unless memory runs out.
+    ensures only { (s : Stated_model) → IsCertText s bytes.now → GivesOrMemory (λ s. s) result (Ok s) }
+    // Which line is the first at fault, and which test it fails.
+    ensures exact { GivesOrMemory (λ s. s) result (stated_by bytes.now) }
+    // No text makes it take memory by its first three lines alone.
+    ensures early { IsEarly (stated_by bytes.now) → IsErrOf result CertError.Memory → ⊥ }
+{
+    read_text(alloc, bytes)
+}
+
+/// What a text states, or its first fault.
+fn read_text(alloc: Global, bytes: &[u8]) -> Result<Stated, CertError>
+    ensures exact { GivesOrMemory (λ s. s) result (stated_by bytes.now) }
+    ensures early { IsEarly (stated_by bytes.now) → IsErrOf result CertError.Memory → ⊥ }
+{
+    let head = head_of(Lines { bytes, number: 1 })?;
+    body_of(alloc, head)
+}
+
+/// What stands behind the head.
+fn body_of(alloc: Global, head: Head<'_>) -> Result<Stated, CertError>
+    requires number { head.rest.number ≤ 4 }
+    requires count { IsVertexCount head.vertices }
+    requires digits { head.number < 10 ^ MOST_DIGITS }
+    ensures { GivesOrMemory (λ s. s) result
+        (body_of (record { number = head.entry.number; vertices = head.entry.vertices; rest = rest_of head.entry.rest })) }
+{
+    let mut stated = Stated::new(alloc, head.number, head.vertices)?;
+    let rest = read_edges(&mut stated, head.rest)?;
+    let rest = read_pairs(&mut stated, rest)?;
+    end_line(rest)?;
+    Ok(stated)
+}
+
+/// Reads the edges, and gives the lines behind them.
+fn read_edges<'a>(stated: &mut Stated, lines: Lines<'a>) -> Result<Lines<'a>, CertError>
+    requires number { lines.number ≤ 4 }
+    requires none { stated.old.graph ≡ no_edges stated.old.graph.vertices }
+    ensures edges { ReadsEdges stated.old stated.new result (rest_of lines.entry) }
+    ensures number { IfOk result (λ r. r.number ≤ 5 + MOST_VERTICES * (MOST_VERTICES - 1)) }
+{
+    let n = stated.vertices();
+    let (count, mut rest) = count_line(b"edges", n * (n - 1), lines)?;
+    let mut before = None;
+    'edges: for _ in 0..count {
+        let (edge, behind) = edge_line(n, before, rest)?;
+        stated.put_edge(&edge);
+        before = Some((edge.from, edge.to));
+        rest = behind;
+    }
+    Ok(rest)
+}
+
+/// Reads the pairs, and gives the lines behind them.
+fn read_pairs<'a>(stated: &mut Stated, lines: Lines<'a>) -> Result<Lines<'a>, CertError>
+    requires number { lines.number ≤ 5 + MOST_VERTICES * (MOST_VERTICES - 1) }
+    requires none { stated.old.entries ≡ map.empty }
+    ensures pairs { ReadsPairs stated.old stated.new result (rest_of lines.entry) }
+    ensures number { IfOk result (λ r. r.number ≤ 6 + 2 * (MOST_VERTICES * (MOST_VERTICES - 1))) }
+{
+    let n = stated.vertices();
+    let (count, mut rest) = count_line(b"pairs", n * (n - 1), lines)?;
+    let mut before = None;
+    'pairs: for _ in 0..count {
+        let (pair, behind) = pair_line(n, before, rest)?;
+        stated.put_pair(&pair);
+        before = Some((pair.from, pair.to));
+        rest = behind;
+    }
+    Ok(rest)
+}
