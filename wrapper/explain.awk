@@ -15,9 +15,10 @@ function refusal(line, code, place,    text, words, count, where) {
     print "  expected: " (code == 4 && words[1] in form ? form[words[1]] : expected[code])
 }
 
-part == "formats" && NF == 5 && $2 ~ /^[0-9]+$/ { name[$2] = $3; cause[$2] = $4 }
-part == "formats" && NF == 6 && $2 ~ /^[0-9]+$/ { expected[$2] = $5 }
-part == "formats" && NF == 5 && $2 ~ /^`[a-z]+/ {
+part == "formats" && /^## / { section = substr($0, 4) }
+part == "formats" && section == "Refusals" && NF == 5 && $2 ~ /^[0-9]+$/ { name[$2] = $3; cause[$2] = $4 }
+part == "formats" && section == "Refusals" && NF == 6 && $2 ~ /^[0-9]+$/ { expected[$2] = $5 }
+part == "formats" && section == "Lines of a script" && NF == 5 && $2 ~ /^`[a-z]+/ {
     gsub(/`/, "", $2)
     split($2, words, " ")
     form[words[1]] = $2 ", " $3 " words"
