@@ -5,7 +5,7 @@ use Rattle.apsp_model.specs.Walk.{first, last}
 use Rattle.path_arena.specs.Arena.{Arena, list_of}
 use Rattle.weight_classes.specs.Classes.{Fits}
 use Rattle.fixup.proofs.Joined.{first_inside, last_inside, vertices_now, fits_now, not_held, joined_left}
-use Rattle.fixup.proofs.joins.join.Goals as goal
+use Rattle.fixup.proofs.class.join.Goals as goal
 
 same_vertex : (x y : ℕ) → Some x ≡ Some y → x ≡ y
 same_vertex x y e = cc
