@@ -47,8 +47,9 @@ def main():
             commands = [[run.PROGRAM, "run"], [run.PROGRAM, "run", "--smooth"], [anew, "floyd"], [anew, "dijkstra"]]
             if any(distances(text, command) != distances(text, commands[0]) for command in commands[1:]):
                 sys.exit(f"bench: the replies to {name} differ")
-            (this, mb), (smooth, _), (floyd, anew_mb), (dijkstra, _) = [least(text, updates, command) for command in commands]
-            print(f"| {name} | {this:.3f} | {smooth:.3f} | {floyd:.3f} | {dijkstra:.3f} | {mb:.1f} | {anew_mb:.1f} |", flush=True)
+            found = [least(text, updates, command) for command in commands]
+            times = " | ".join(f"{ms:.3f}" for ms, _ in found)
+            print(f"| {name} | {times} | {found[0][1]:.1f} | {found[2][1]:.1f} |", flush=True)
 
 
 if __name__ == "__main__":

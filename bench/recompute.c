@@ -2,8 +2,8 @@
  *
  *     recompute floyd|dijkstra < SCRIPT
  *
- * A walk's key is its weight times 256 plus its number of edges, below 2^48, so doubles hold it exactly and its order is
- * that of weight, then edges. Among walks of one key the least list is found vertex by vertex. stats counts updates alone. */
+ * A walk's key is its weight times 256 plus its number of edges, below 2^48, so doubles hold it exactly, and its order
+ * is that of weight, then edges. Among walks of one key the least list is found vertex by vertex. stats counts updates. */
 #include <stdint.h>
 #include <stdio.h>
 #include <stdlib.h>

@@ -1,4 +1,4 @@
-"""Plans a way through a town, and asks what each street of it is worth: it is closed, the detour is read, and it is opened again.
+"""Plans a way through a town, and asks what each street of it is worth: it is closed, the detour is read, and it opens again.
 
     python3 examples/planner.py [--town FILE] [--from V] [--to V] [--svg FILE] [--check]
 

@@ -1,5 +1,5 @@
-"""Simulates walkers in a town: at each tick each asks for the least way from where it stands and goes one street of it, and
-the more walk along a street, the longer it counts for the next ticks.
+"""Simulates walkers in a town: at each tick each asks for the least way from where it stands and goes one street of it,
+and the more walk along a street, the longer it counts for the next ticks.
 
     python3 examples/simulator.py [--town FILE] [--walkers N] [--svg FILE]
 """
@@ -62,7 +62,8 @@ def main():
             slowed = tick(network, town, walkers, slowed)
             walking = sum(not walker.has_arrived() for walker in walkers)
             stats = network.stats()
-            print(f"{number:>4}  {walking:>7}  {len(slowed):>12}  {stats.updates:>7}  {stats.paths:>10}  {stats.formed:>6}  {stats.removed:>7}")
+            print(f"{number:>4}  {walking:>7}  {len(slowed):>12}  {stats.updates:>7}  {stats.paths:>10}  {stats.formed:>6}"
+                  f"  {stats.removed:>7}")
     if given.svg:
         draw(town, walkers, given.svg)
 

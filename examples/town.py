@@ -56,7 +56,8 @@ class Picture:
         x, y = self.at(v)
         self.strokes.append(f'<circle cx="{x}" cy="{y}" r="9" fill="{colour}"/>')
         if text:
-            self.strokes.append(f'<text x="{x + 13}" y="{y - 12}" font-family="sans-serif" font-size="20" fill="{colour}">{text}</text>')
+            place = f'x="{x + 13}" y="{y - 12}"'
+            self.strokes.append(f'<text {place} font-family="sans-serif" font-size="20" fill="{colour}">{text}</text>')
 
     def cross(self, u, v, colour):
         (a, b), (c, d) = self.at(u), self.at(v)

@@ -13,12 +13,9 @@ TOP = os.path.dirname(HERE)
 SECONDS = 120
 
 FAKE_RT = """#!/bin/sh
-# Stands for the prover: says what it would say of two crates, and leaves the program.
-echo "crate low: modules loaded=0 checked=1"
-echo "logic=proved functions=1"
-sleep 0.2
-echo "crate apsp: modules loaded=0 checked=1"
-echo "logic=%s functions=1"
+# Stands for the prover: leaves what it would leave of a library, and then of the program.
+mkdir -p ../low/out/rlib && touch ../low/out/rlib/stamp
+sleep 0.7
 %s
 """
 
@@ -52,7 +49,7 @@ class Checkout:
         for name in ("apsp", "VERSION"):
             shutil.copy2(os.path.join(TOP, name), self.top)
         with open(os.path.join(self.top, "crates.txt"), "w", encoding="ascii") as file:
-            file.write("low:\napsp: low\n")
+            file.write("low:\naside: low\napsp: low\n")
         for folder in ("src", "specs", "proofs"):
             os.makedirs(os.path.join(self.top, "crates", "apsp", folder))
         if program:
@@ -69,13 +66,13 @@ class Checkout:
     def apsp(self, *words, **how):
         return run([os.path.join(self.top, "apsp"), *words], **how)
 
-    def with_rt(self, status, leaves):
+    def with_rt(self, leaves):
         """The environment with a prover that is none, or with none at all."""
         folder = os.path.join(self.top, "bin")
         os.makedirs(folder, exist_ok=True)
         rt = os.path.join(folder, "rt")
         with open(rt, "w", encoding="ascii") as file:
-            file.write(FAKE_RT % (status, leaves))
+            file.write(FAKE_RT % leaves)
         os.chmod(rt, 0o755)
         return dict(os.environ, PATH=f"{folder}:/usr/bin:/bin", TMPDIR=self.top)
 
@@ -83,7 +80,7 @@ class Checkout:
 def help_builds_nothing(_program):
     with Checkout() as here:
         usage, version = text_of("wrapper", "usage.txt"), text_of("VERSION")
-        for words, wanted in ((["help"], usage), (["--help"], usage), (["--version"], version)):
+        for words, wanted in ([["help"], usage], [["--help"], usage], [["--version"], version]):
             done = here.apsp(*words, env={"PATH": "/usr/bin:/bin"})
             same((done.returncode, done.stdout, done.stderr), (0, wanted, ""), words)
         done = here.apsp(env={"PATH": "/usr/bin:/bin"})
@@ -109,40 +106,50 @@ def a_link_leads_to_the_program(program):
 def a_build_names_each_crate(program):
     with Checkout() as here:
         leaves = f"mkdir -p out && cp {shlex.quote(program)} out/apsp"
-        done = here.apsp(input="vertices 2\ndist 0 1\n", env=here.with_rt("proved", leaves))
+        done = here.apsp(input="vertices 2\ndist 0 1\n", env=here.with_rt(leaves))
         same((done.returncode, done.stdout), (0, "dist 0 1 none\n"), "what is built runs")
         told = done.stderr.splitlines()
         same(told[1:], ["apsp: low is proved (1 of 2)", "apsp: apsp is proved (2 of 2)"], "the crates")
         log = told[0].split()[-1]
-        same((os.path.dirname(log), os.path.exists(log)), (here.top, False), "the log is named, and removed at the end")
+        same((log.startswith(here.top), os.path.exists(log)), (True, False), "the log is named, and removed at the end")
 
 
 def a_build_that_fails_says_where_the_log_is(_program):
     with Checkout() as here:
-        done = here.apsp(input="vertices 2\n", env=here.with_rt("not-proved", "exit 1"))
+        done = here.apsp(input="vertices 2\n", env=here.with_rt("echo not proved; exit 1"))
         same((done.returncode, done.stdout), (127, ""), "no program")
         last = done.stderr.splitlines()[-1]
         log = last.split()[-1]
         same((last, os.path.exists(log)), (f"apsp: the build failed; the log is {log}", True), "the log stays")
+        same(done.stderr.splitlines()[-3:-1], ["apsp: low is proved (1 of 2)", "not proved"], "what was proved, and the log's end")
 
 
 def the_manual_has_the_usage(_program):
     lines = text_of("docs", "apsp.1").replace("\\-", "-").splitlines()
-    heads = [line[4:].lower() if line.startswith(".SH ") else line for line in lines if not line.startswith(".") or line.startswith(".SH ")]
+    lines = [line[4:].lower() if line.startswith(".SH ") else line for line in lines]
     usage = [line for line in text_of("wrapper", "usage.txt").splitlines() if line]
-    same([line for line in heads if line != "name"], usage, "docs/apsp.1 beside wrapper/usage.txt")
+    shown = [line for line in lines if line != "name" and not line.startswith(".")]
+    same(shown, usage, "docs/apsp.1 beside wrapper/usage.txt")
+
+
+def the_reading_list_is_that_of_the_sources(_program):
+    done = run([sys.executable, "-B", os.path.join(HERE, "reading_list.py"), "--check"])
+    same((done.returncode, done.stderr), (0, ""), "CONTRIBUTING.md")
 
 
 def wrong_lines():
-    for code, line, reply, expected in re.findall(r"^\| (\d+) \| (.*) \| `(line .*)` \| (.*) \|$", text_of("docs", "FORMATS.md"), re.M):
-        yield int(code), "x" * 65537 if code == "10" else line.strip("`"), reply, expected
+    """The rows of FORMATS that have a wrong line: the code, the script, the line, its reply and what is expected there."""
+    row = re.compile(r"^\| (\d+) \| (.*) \| `(line .*)` \| (.*) \|$", re.M)
+    for code, line, reply, expected in row.findall(text_of("docs", "FORMATS.md")):
+        line = "x" * 65537 if code == "10" else line.strip("`")
+        yield int(code), ("" if code == "1" else "vertices 3\n") + line + "\n", line, reply, expected
 
 
 def each_code_has_its_wrong_line(program):
     codes = []
-    for code, line, reply, _ in wrong_lines():
+    for code, script, line, reply, _ in wrong_lines():
         codes.append(code)
-        done = run([program], input=("" if code == 1 else "vertices 3\n") + line + "\n")
+        done = run([program], input=script)
         same((done.returncode, done.stdout), (1, reply + "\n"), line[:80])
     same(codes, list(range(1, 1 + len(codes))), "the codes of docs/FORMATS.md")
     assert codes, "no wrong line is read from docs/FORMATS.md"
@@ -150,10 +157,9 @@ def each_code_has_its_wrong_line(program):
 
 def explain_says_what_is_expected(program):
     with Checkout(program) as here:
-        for code, line, reply, expected in wrong_lines():
-            script = os.path.join(here.top, "wrong.txt")
-            with open(script, "w", encoding="ascii") as file:
-                file.write(("" if code == 1 else "vertices 3\n") + line + "\n")
+        for _, script, line, reply, expected in wrong_lines():
+            with open(os.path.join(here.top, "wrong.txt"), "w", encoding="ascii") as file:
+                file.write(script)
             done = here.apsp("explain", "wrong.txt", cwd=here.top)
             told = done.stdout.splitlines()
             form = {"dist 0": "dist X Y, 3 words"}.get(line, expected)
@@ -164,33 +170,51 @@ def explain_says_what_is_expected(program):
         same((done.returncode, done.stdout), (2, ""), "a script that is not there")
 
 
+def pages():
+    """The documents that show commands, and their text."""
+    for folder in ("", "docs", "examples"):
+        for name in sorted(os.listdir(os.path.join(TOP, folder))):
+            if name.endswith(".md"):
+                yield os.path.join(folder, name), text_of(folder, name)
+
+
+def shown_commands():
+    """Each command that stands behind `$ ` in a document, with the output below it."""
+    for page, text in pages():
+        for block in re.findall(r"^```\w*\n(.*?)^```$", text, re.M | re.S):
+            for command, output in re.findall(r"^\$ (.*)\n((?:(?!\$ ).*\n)*)", block, re.M):
+                yield page, command, output
+
+
 def commands_of_the_documents(program):
-    """Each command that stands behind `$ ` in a document gives what the document shows below it."""
     found = 0
     with Checkout(program) as here:
-        pages = ["README.md"] + [os.path.join(folder, name) for folder in ("docs", "examples") for name in sorted(os.listdir(os.path.join(TOP, folder)))]
-        for page in pages:
-            if not page.endswith(".md"):
-                continue
-            for block in re.findall(r"^```\w*\n(.*?)^```$", text_of(page), re.M | re.S):
-                for command, output in re.findall(r"^\$ (.*)\n((?:(?!\$ ).*\n)*)", block, re.M):
-                    done = run(["bash", "-c", command], cwd=here.top)
-                    same(done.stdout, output, f"{page}: {command}\n  {done.stderr[-600:]}")
-                    found += 1
-        for block in re.findall(r"^```python\n(.*?)^```$", text_of("README.md"), re.M | re.S):
-            done = run([sys.executable, "-c", block], env=dict(os.environ, APSP_PROGRAM=program, PYTHONPATH=os.path.join(TOP, "clients", "python")))
-            same(done.stdout.splitlines(), re.findall(r"print\(.*\) +# (.*)", block), f"README.md: {block}\n{done.stderr[-600:]}")
+        for page, command, output in shown_commands():
+            done = run(["bash", "-c", command], cwd=here.top)
+            same(done.stdout, output, f"{page}: {command}\n  {done.stderr[-600:]}")
+            found += 1
     assert found >= 4, f"only {found} commands were found"
 
 
+def code_of_the_documents(program):
+    """Each block of Python prints what the comments behind its prints say."""
+    how = dict(os.environ, APSP_PROGRAM=program, PYTHONPATH=os.path.join(TOP, "clients", "python"))
+    for page, text in pages():
+        for block in re.findall(r"^```python\n(.*?)^```$", text, re.M | re.S):
+            done = run([sys.executable, "-B", "-c", block], env=how)
+            wanted = re.findall(r"print\(.*\) +# (.*)", block)
+            same(done.stdout.splitlines(), wanted, f"{page}: {block}\n{done.stderr[-600:]}")
+
+
 def pictures_of_the_examples(program):
+    how = dict(os.environ, APSP_PROGRAM=program)
     with Checkout(program) as here:
         for name in ("planner", "simulator"):
-            done = run([sys.executable, f"examples/{name}.py", "--svg", "new.svg"], cwd=here.top, env=dict(os.environ, APSP_PROGRAM=program))
+            done = run([sys.executable, f"examples/{name}.py", "--svg", "new.svg"], cwd=here.top, env=how)
             same((done.returncode, done.stderr), (0, ""), name)
             with open(os.path.join(here.top, "new.svg"), encoding="ascii") as file:
                 same(file.read() == text_of("examples", f"{name}.svg"), True, f"examples/{name}.svg is what {name}.py draws")
-        done = run([sys.executable, "examples/planner.py", "--check"], cwd=here.top, env=dict(os.environ, APSP_PROGRAM=program))
+        done = run([sys.executable, "examples/planner.py", "--check"], cwd=here.top, env=how)
         verdict = done.stdout.splitlines()[-1]
         if verdict == "this program has no certificates":
             raise Skip(verdict)
@@ -199,14 +223,18 @@ def pictures_of_the_examples(program):
 
 def the_bench_says_what_is_missing(program):
     bench = os.path.join(TOP, "bench", "run.py")
-    for named, words, wanted in (("/nonexistent", [], "/nonexistent is not built"), (program, ["dense17"], "there is no script dense17")):
+    for named, words, wanted in (
+        ("/nonexistent", [], "/nonexistent is not built"),
+        (program, ["dense17"], "there is no script dense17"),
+    ):
         done = run([sys.executable, "-B", bench, *words], env=dict(os.environ, APSP_PROGRAM=named))
         same((done.returncode, done.stdout, len(done.stderr.splitlines())), (1, "", 1), words)
         assert wanted in done.stderr, done.stderr
 
 
 def client_in_python(program):
-    done = run([sys.executable, os.path.join(TOP, "clients", "python", "test_apsp.py")], env=dict(os.environ, APSP_PROGRAM=program))
+    tests = os.path.join(TOP, "clients", "python", "test_apsp.py")
+    done = run([sys.executable, "-B", tests], env=dict(os.environ, APSP_PROGRAM=program))
     same(done.returncode, 0, done.stderr[-3000:])
     if "skipped" in done.stderr:
         raise Skip(done.stderr.splitlines()[-1] + ": this program has no certificates")
@@ -227,9 +255,23 @@ def client_in_c(program):
             raise Skip(done.stdout.strip())
 
 
-CHECKS = [help_builds_nothing, words_that_are_none_get_the_usage, a_link_leads_to_the_program, a_build_names_each_crate,
-          a_build_that_fails_says_where_the_log_is, the_manual_has_the_usage, each_code_has_its_wrong_line,
-          explain_says_what_is_expected, commands_of_the_documents, the_bench_says_what_is_missing, pictures_of_the_examples, client_in_python, client_in_c]
+CHECKS = [
+    help_builds_nothing,
+    words_that_are_none_get_the_usage,
+    a_link_leads_to_the_program,
+    a_build_names_each_crate,
+    a_build_that_fails_says_where_the_log_is,
+    the_manual_has_the_usage,
+    the_reading_list_is_that_of_the_sources,
+    each_code_has_its_wrong_line,
+    explain_says_what_is_expected,
+    commands_of_the_documents,
+    code_of_the_documents,
+    the_bench_says_what_is_missing,
+    pictures_of_the_examples,
+    client_in_python,
+    client_in_c,
+]
 
 
 def checks(program, wanted=()):

@@ -2,19 +2,23 @@
 # Reads FORMATS.md, which has the names of the codes, the script, and the replies: part says which.
 BEGIN { FS = " *[|] *" }
 
-function refusal(line, code, place,    text, words, count) {
+function refusal(line, code, place,    text, words, count, where) {
     text = script[line]
     gsub(/[ \t\r]+/, " ", text)
     gsub(/^ | $/, "", text)
     count = split(text, words, " ")
     print "  " (length(text) > 160 ? substr(text, 1, 160) " .." : text)
-    print "  " name[code] ", " (place == 0 ? "of the whole line" : place > count ? "behind the last word" : "at word " place " (" words[place] ")") ": " cause[code]
+    if (place == 0) where = "of the whole line"
+    else if (place > count) where = "behind the last word"
+    else where = "at word " place " (" words[place] ")"
+    print "  " name[code] ", " where ": " cause[code]
     print "  expected: " (code == 4 && words[1] in form ? form[words[1]] : expected[code])
 }
 
-part == "formats" && NF == 5 && $2 ~ /^[0-9]+$/ { name[$2] = $3; cause[$2] = $4 }
-part == "formats" && NF == 6 && $2 ~ /^[0-9]+$/ { expected[$2] = $5 }
-part == "formats" && NF == 5 && $2 ~ /^`[a-z]+/ {
+part == "formats" && /^## / { section = substr($0, 4) }
+part == "formats" && section == "Refusals" && NF == 5 && $2 ~ /^[0-9]+$/ { name[$2] = $3; cause[$2] = $4 }
+part == "formats" && section == "Refusals" && NF == 6 && $2 ~ /^[0-9]+$/ { expected[$2] = $5 }
+part == "formats" && section == "Lines of a script" && NF == 5 && $2 ~ /^`[a-z]+/ {
     gsub(/`/, "", $2)
     split($2, words, " ")
     form[words[1]] = $2 ", " $3 " words"

@@ -13,7 +13,7 @@
 #include <time.h>
 #include <unistd.h>
 
-/* Longer than each line and each reply that has at most APSP_MOST_VERTICES vertices on each side: "4294967295:4294967295 ". */
+/* Room for each line and each reply: at most so many items "4294967295:4294967295 " in each of two groups. */
 enum { ROOM = 2 * APSP_MOST_VERTICES * 23 + 64, MOST_INPUT = 16777216 };
 
 struct apsp {
@@ -181,20 +181,21 @@ int apsp_close(apsp *network) {
     return ended > 0 && WIFEXITED(status) ? WEXITSTATUS(status) : -1;
 }
 
+/* As many items as there may be vertices are enough to be refused: one of them repeats, or names what is no neighbour. */
 static void put_group(apsp *network, const char *word, const struct apsp_item *items, size_t count) {
     if (count > 0) {
         put(network, " %s", word);
     }
-    for (size_t i = 0; i < count; i++) {
+    for (size_t i = 0; i < count && i < APSP_MOST_VERTICES; i++) {
         put(network, " %" PRIu32 ":%" PRIu32, items[i].vertex, items[i].weight);
     }
 }
 
-/* More items than there are vertices name some vertex twice or one that there is not, so this is refused as the first repeat is. */
-int apsp_star(apsp *network, uint32_t v, const struct apsp_item *out, size_t outs, const struct apsp_item *in, size_t ins) {
+int apsp_star(apsp *network, uint32_t v, const struct apsp_item *out, size_t outs, const struct apsp_item *in,
+              size_t ins) {
     put(network, "star %" PRIu32, v);
-    put_group(network, "out", out, outs < APSP_MOST_VERTICES ? outs : APSP_MOST_VERTICES);
-    put_group(network, "in", in, ins < APSP_MOST_VERTICES ? ins : APSP_MOST_VERTICES);
+    put_group(network, "out", out, outs);
+    put_group(network, "in", in, ins);
     put(network, "\n");
     return update(network);
 }
@@ -247,7 +248,8 @@ int apsp_row(apsp *network, uint32_t x, uint64_t *distances) {
 int apsp_stats(apsp *network, struct apsp_stats *stats) {
     put(network, "stats\n");
     int end = ask(network);
-    uint64_t *numbers[] = {&stats->updates, &stats->steps, &stats->paths, &stats->historical, &stats->formed, &stats->removed};
+    uint64_t *numbers[] = {&stats->updates,    &stats->steps,  &stats->paths,
+                           &stats->historical, &stats->formed, &stats->removed};
     for (int i = 0; !end && i < 6; i++) {
         char *place = skip_words(network->reply, 2 * i + 2);
         take_number(&place, numbers[i]);

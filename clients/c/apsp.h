@@ -35,7 +35,8 @@ apsp *apsp_open(const char *program, uint32_t n, int smooth);
 int apsp_close(apsp *network);
 
 /* Replaces all edges at v by those to the `out` items and from the `in` items. */
-int apsp_star(apsp *network, uint32_t v, const struct apsp_item *out, size_t outs, const struct apsp_item *in, size_t ins);
+int apsp_star(apsp *network, uint32_t v, const struct apsp_item *out, size_t outs, const struct apsp_item *in,
+              size_t ins);
 
 /* Sets the edge from u to v, or takes it away. */
 int apsp_edge(apsp *network, uint32_t u, uint32_t v, uint32_t w);

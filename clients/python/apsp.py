@@ -65,7 +65,8 @@ class Ended(Error):
     """The program ended, with this `status` (below 0: by that signal)."""
 
     def __init__(self, status):
-        super().__init__(f"the program ended with status {status}" + (f": {STATUSES[status]}" if status in STATUSES else ""))
+        why = f": {STATUSES[status]}" if status in STATUSES else ""
+        super().__init__(f"the program ended with status {status}{why}")
         self.status = status
 
 
@@ -151,9 +152,11 @@ class Network:
     def star(self, v: int, out: Optional[Dict[int, int]] = None, into: Optional[Dict[int, int]] = None) -> None:
         """Replaces all edges at v: by those to each u of `out` and from each u of `into`, with their weights. Without
         both v loses its edges. One update."""
-        groups = (("out", out), ("in", into))
-        texts = [f" {word} " + " ".join(f"{index(u)}:{index(w)}" for u, w in edges.items()) for word, edges in groups if edges]
-        self._update(f"star {index(v)}" + "".join(texts))
+        words = ["star", str(index(v))]
+        for word, edges in (("out", out), ("in", into)):
+            if edges:
+                words += [word] + [f"{index(u)}:{index(w)}" for u, w in edges.items()]
+        self._update(" ".join(words))
 
     def edge(self, u: int, v: int, w: int) -> None:
         """Sets the edge from u to v, whether it was there or not. One update."""

@@ -22,11 +22,15 @@ without_star g v = star_of g (record { vertices = g.vertices; vertex = v; edges 
 abbrev pub HaveWeights : Graph → List KeptPath → Type 0
 HaveWeights g paths = (k : KeptPath) → Contains paths k → k.weight ≡ weight_of g k.list
 
--- what settling starts from: the historical paths are closed under parts, and the kept ones are local in the graph without its edges at v
-pub record IsReady (g : Graph) (v : ℕ) (paths : List KeptPath) : Type 0 where
+-- exactly the local lists of the graph are kept, each with its weight, and the historical ones are closed under parts
+pub record AreLocal (g : Graph) (paths : List KeptPath) : Type 0 where
   pub closed : IsClosedUnderParts (IsHistoricalIn paths)
-  pub kept : (p : List ℕ) → IsKeptIn paths p ↔ IsLocal (without_star g v) (IsHistoricalIn paths) p
-  pub weights : HaveWeights (without_star g v) paths
+  pub kept : (p : List ℕ) → IsKeptIn paths p ↔ IsLocal g (IsHistoricalIn paths) p
+  pub weights : HaveWeights g paths
+
+-- what settling starts from: the kept paths are the local ones of the graph without its edges at v
+abbrev pub IsReady : Graph → ℕ → List KeptPath → Type 0
+IsReady g v paths = AreLocal (without_star g v) paths
 
 -- what settling leaves: all least walks are historical beside what was, and exactly what is local then is kept;
 -- added paths have the given birth and all others keep theirs; so many were added, and so many newly marked

@@ -1,5 +1,5 @@
 -- The walk from parents to children, one path of the queue behind another.
-use Rattle.std.specs.Prelude.{◌≡◌, ℕ, zero, suc, ◌+◌, ◌<◌, ◌≤◌, ◌⊎◌, Bool, true, false, if◌then◌else◌, List, [], ◌∷◌, ◌++◌, length, take, map, Some, refl, Contains}
+use Rattle.std.specs.Prelude.{◌≡◌, ℕ, zero, suc, ◌+◌, ◌<◌, ◌≤◌, ◌⊎◌, Bool, true, false, if◌then◌else◌, List, [], ◌∷◌, ◌++◌, length, take, map, Some, slice_index, refl, Contains}
 use Rattle.std.specs.FinMap as fin
 use Rattle.std.proofs.Common.{get_or, sym, ◌∙◌, ap, subst, arith, inl, inr}
 use Rattle.std.proofs.lemmas.Bool.{cases_Bool}
@@ -17,6 +17,10 @@ use Rattle.cleanup_tasks.specs.Walk.{starts_at, longer_of}
 use Rattle.cleanup_tasks.proofs.Parents.{Passes, IsChild, longer_exact, ChildFacts, child_facts, ParentOf, parent_of, one_parent, ends_apart, single_or_through, single_passes, some_hops}
 
 -- ---- lists
+
+-- an index into a list, read with another default
+pub at_any_default : (xs : List ℕ) (i x : ℕ) → i < length xs → x ≡ get_or xs i x → x ≡ slice_index xs i
+at_any_default xs i x within is = is ∙ get_or_default xs i x 0 within
 
 once_append : (xs ys : List ℕ) → IsOnceEach xs → IsOnceEach ys → ((x : ℕ) → Contains xs x → Contains ys x → ⊥) → IsOnceEach (xs ++ ys)
 once_append [] ys a b apart = b

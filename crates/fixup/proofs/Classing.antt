@@ -1,4 +1,4 @@
--- A class is taken, and once its winners are done the next one can be.
+-- A class is taken.
 use Rattle.std.specs.Prelude.{◌≡◌, ℕ, ◌+◌, ◌*◌, ◌<◌, ◌≤◌, ◌⊎◌, ◌↔◌, false, List, [], ◌∷◌, length, Some, unwrap_or, slice_index_or, refl, Contains}
 use Rattle.std.specs.declared.cmp.Ordering.TheVariants.{Less}
 use Rattle.std.proofs.Common.{sym, ◌∙◌, ap, subst, arith, inl, inr, get_or}
@@ -11,15 +11,14 @@ use Rattle.path_book.specs.Book.{Book}
 use Rattle.weight_classes.specs.Classes.{Classes, Rank, IsLower, Fits, IsHeld, IsPopped, first_of, last_of}
 use Rattle.weight_classes.proofs.Held.{popped_cases, class_held, still_held}
 use Rattle.std.proofs.lemmas.List.Elements.{Contains-get_or}
-use Rattle.fixup_math.proofs.Counting.{in_nil}
 use Rattle.fixup_math.proofs.Ranks.{ByWeightThenHops, weight_then_hops_is_rank}
 use Rattle.fixup_math.proofs.Settling.{IsClass}
 use Rattle.fixup_math.proofs.Classes.{IsPoppedByWeightThenHops, IsWinners as IsWinnersOf, class_by_weight_then_hops}
-use Rattle.fixup_math.proofs.Winners.{class_starts, class_ends}
+use Rattle.fixup_math.proofs.Winners.{class_starts}
 use Rattle.fixup.proofs.Growth.{id_weight}
 use Rattle.fixup.proofs.Heads.{ends_inside}
 use Rattle.fixup.specs.Views.{HeldIn, Kept, Marked, WonIn}
-use Rattle.fixup.specs.Growth.{IsAt, IsBetween, ListedIn}
+use Rattle.fixup.specs.Growth.{IsAt, IsTaken, ListedIn}
 
 higher : (r s : Rank) → IsLower r s → s.weight ≡ r.weight → s.hops ≡ r.hops → ⊥
 higher r s lower w h = elim lower [ inl less ↦ omega (arith, less, w) | inr tie ↦ omega (arith, tie.1, h) ]
@@ -174,24 +173,16 @@ module _ (g : Graph) (birth : ℕ) (b0 b : Book) (c : Classes) (s : IsAt g birth
   class_hops = pop.some.3
 
   -- its winners are promoted next
-  pub class_taken : IsBetween g birth b0 class_path winners b later
+  pub class_taken : IsTaken g birth b0 class_path winners b later
   unfolding class_path
   class_taken = record {
     grown = s.grown;
     fits = fits;
-    todo_live = λ w h. live_of rank w (winner_held w h);
+    live = λ w h. live_of rank w (winner_held w h);
+    in_order = popped.are_winners.in_order;
     held_long = λ p h. s.held_long p ((pop.rest p).0 h).0;
     above = λ p h upto.
         let was : IsHeld c h.0 h.1 = still_held c later b.arena rank winners popped h.0 h.1 h.2 in
         not_upto rank h.0 (weight_of g p) (hops_of p) (weight_of g pop.some.0) (hops_of pop.some.0) (popped.above h.0 h.1 h.2) (weighs h.0 h.1 was ∙ ap (weight_of g) h.3) (hops h.0 h.1 was ∙ ap hops_of h.3) pop.some.2 pop.some.3 upto;
     inside = class_starts g (ByWeightThenHops g) (weight_then_hops_is_rank g) (Marked b0) (Marked b) (Kept b) (HeldIn b c) (WonIn c) s.settling (HeldIn b later) (ListedIn b winners) class_path class (WonIn later) won_then;
   }
-
--- once no winner is left
-pub class_done : (g : Graph) (birth : ℕ) (b0 : Book) (cl : List ℕ) (b : Book) (c : Classes) → IsBetween g birth b0 cl [] b c → IsAt g birth b0 b c
-class_done g birth b0 cl b c s = record {
-  grown = s.grown;
-  fits = s.fits;
-  held_long = s.held_long;
-  settling = class_ends g (ByWeightThenHops g) (Marked b0) (Marked b) (Kept b) (HeldIn b c) (ListedIn b []) (WonIn c) cl s.inside (λ w h. in_nil h.0 h.1);
-}

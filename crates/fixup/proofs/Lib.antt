@@ -2,7 +2,9 @@ pub mod Views
 pub mod Growth
 pub mod Held
 pub mod Promoting
-pub mod Partnering
+pub mod Adding
+pub mod Searching
+pub mod Pairing
 pub mod Starting
 pub mod Heads
 pub mod Classing
@@ -11,5 +13,4 @@ pub mod Lightest
 pub mod Joined
 pub mod Wholes
 pub mod Taking
-pub mod Winner
 pub mod Untouched

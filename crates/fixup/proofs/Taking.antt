@@ -1,104 +1,113 @@
--- Partner by partner, as the loops take them.
-use Rattle.std.specs.Prelude.{◌≡◌, ℕ, ◌+◌, ◌<◌, ◌≤◌, List, [], ◌∷◌, ◌++◌, Contains, refl}
-use Rattle.std.proofs.Common.{sym, ◌∙◌, ap, subst, arith, take, get_or, length, zero, suc, inl, inr}
-use Rattle.std.proofs.lemmas.List.{take_more}
-use Rattle.std.specs.FinSet as set
+-- Winner by winner and pair by pair, as the loops take them.
+use Rattle.std.specs.Prelude.{◌≡◌, ℕ, ◌+◌, ◌<◌, ◌≤◌, ◌⊎◌, ◌↔◌, List, [], ◌∷◌, ◌++◌, Contains, refl}
+use Rattle.std.proofs.Common.{sym, ◌∙◌, ap, subst, take, get_or, length, inl, inr}
+use Rattle.std.proofs.lemmas.List.{take_all}
 use Rattle.apsp_model.specs.Walk.{IsOnceEach, first, last}
-use Rattle.path_arena.specs.Arena.{IsLive, list_of, CanJoin, joined_path}
-use Rattle.path_book.specs.Book.{Book, IsBook, IsMarked, IsNewList}
+use Rattle.path_arena.specs.Arena.{Arena, IsLive, list_of, CanJoin, joined_path}
+use Rattle.path_book.specs.Book.{Book, IsBook, IsMarked, IsNewList, with_mark}
 use Rattle.weight_classes.specs.Classes.{Classes, Fits}
-use Rattle.fixup_math.proofs.Counting.{in_cons, in_nil}
-use Rattle.fixup.specs.Growth.{IsInFront, IsBehind}
+use Rattle.fixup_math.proofs.Counting.{in_nil}
+use Rattle.fixup.specs.declared.listing.Join.{Join}
 use Rattle.fixup.specs.Joining.{IsJoined}
-use Rattle.fixup.specs.Stages.{Stage, IsJoiningAt, AreInFront, AreBehind, IsFrontReady, IsBehindReady}
-use Rattle.fixup.proofs.Views.{mark_new}
-use Rattle.fixup.proofs.Partnering.{front_can, front_fresh, front_marked, front_step, behind_can, behind_fresh, behind_marked, behind_step}
+use Rattle.fixup.specs.Owing.{IsPromoted, IsOwed, AreOwed}
+use Rattle.fixup.specs.Stages.{Stage, IsTakenAt, IsDoneAt, IsJoiningAt, AreOwedAt, AreJoinsReady}
+use Rattle.fixup.proofs.Views.{mark_new, mark_still, mark_cases}
+use Rattle.fixup.proofs.Adding.{once_before, take_push, take_cases, take_old, take_new}
+use Rattle.fixup.proofs.Pairing.{joining_starts, joining_ends, pair_can, pair_fresh, pair_step, left_marked, right_marked, left_now, right_now}
 
-pub take_push : (xs : List ℕ) (i x : ℕ) → i < length xs → x ≡ get_or xs i x → take (i + 1) xs ≡ take i xs ++ x ∷ []
-take_push xs i x inside at = take_more xs i x inside ∙ ap (λ y. take i xs ++ y ∷ []) (sym at)
+-- ---- the winners become historical
 
-take_all : (xs : List ℕ) (i : ℕ) → length xs ≤ i → take i xs ≡ xs
-take_all [] zero h = refl
-take_all [] (suc i) h = refl
-take_all (x ∷ xs) zero h = let k : ⊥ = omega (arith, h) in absurd k
-take_all (x ∷ xs) (suc i) h = ap (λ l. x ∷ l) (take_all xs i (omega (arith, h)))
+pub promoted_none : (b : Book) (winners : List ℕ) → IsBook b → IsPromoted b (take 0 winners) b
+promoted_none b winners lawful = record { lawful = lawful; arena = refl; marks = λ id. (λ m. inl m, λ h. elim h [ inl m ↦ m | inr c ↦ absurd (none winners id c) ]) }
+  where
+    none : (ws : List ℕ) (id : ℕ) → Contains (take 0 ws) id → ⊥
+    none [] id c = in_nil id c
+    none (w ∷ ws) id c = in_nil id c
 
-pub front_end : (birth w : ℕ) (ps : List ℕ) (b0 b : Book) (c0 c : Classes) (i : ℕ) → length ps ≤ i → ((s : Stage) → IsJoiningAt s birth w [] s.behind b0 c0 → AreInFront s w ps → IsJoiningAt s birth w (take i ps) s.behind b c) → (s : Stage) → IsJoiningAt s birth w [] s.behind b0 c0 → AreInFront s w ps → IsJoiningAt s birth w ps s.behind b c
-front_end birth w ps b0 b c0 c i all before s start front = subst (λ fs. IsJoiningAt s birth w fs s.behind b c) (take_all ps i all) (before s start front)
+module _ (b0 b : Book) (winners : List ℕ) (i w : ℕ) (inside : i < length winners) (at : w ≡ get_or winners i w) (p : IsPromoted b0 (take i winners) b) where
+  pub promote_live : ((v : ℕ) → Contains winners v → IsLive b0.arena v) → IsLive b.arena w
+  promote_live live = subst (λ (a : Arena). IsLive a w) (sym p.arena) (live w (i, inside, sym at))
 
-pub behind_end : (birth w : ℕ) (ps : List ℕ) (b0 b : Book) (c0 c : Classes) (i : ℕ) → length ps ≤ i → ((s : Stage) → IsJoiningAt s birth w s.front [] b0 c0 → AreBehind s w ps → IsJoiningAt s birth w s.front (take i ps) b c) → (s : Stage) → IsJoiningAt s birth w s.front [] b0 c0 → AreBehind s w ps → IsJoiningAt s birth w s.front ps b c
-behind_end birth w ps b0 b c0 c i all before s start behind = subst (λ rs. IsJoiningAt s birth w s.front rs b c) (take_all ps i all) (before s start behind)
+  pub promote_pending : ((v : ℕ) → Contains winners v → IsMarked b0 v → ⊥) → IsOnceEach winners → IsMarked b w → ⊥
+  promote_pending pending once m = elim ((p.marks w).0 m) [ inl old ↦ pending w (i, inside, sym at) old | inr earlier ↦ once_before winners i w once inside at earlier ]
 
-pub once_before : (xs : List ℕ) (i x : ℕ) → IsOnceEach xs → i < length xs → x ≡ get_or xs i x → Contains (take i xs) x → ⊥
-once_before [] i x once inside at c = let k : ⊥ = omega (arith, inside) in k
-once_before (y ∷ xs) zero x once inside at c = in_nil x c
-once_before (y ∷ xs) (suc i) x once inside at c = elim (in_cons x y (take i xs) c) [
-  | inl same ↦ once.0 (subst (Contains xs) (sym same) (i, omega (arith, inside), sym at))
-  | inr more ↦ once_before xs i x once.1 (omega (arith, inside)) at more
-]
+  pub promoted_more : (after : Book) → after ≡ with_mark b w → IsBook after → IsPromoted b0 (take (i + 1) winners) after
+  promoted_more after is lawful = record {
+    lawful = lawful;
+    arena = ap (λ (d : Book). d.arena) is ∙ p.arena;
+    marks = λ id. (
+      λ m. elim (mark_cases b w id (subst (λ (d : Book). IsMarked d id) is m)) [
+        | inl old ↦ elim ((p.marks id).0 old) [ inl before ↦ inl before | inr earlier ↦ inr (take_old winners i w inside at id earlier) ]
+        | inr same ↦ inr (subst (Contains (take (i + 1) winners)) (sym same) (take_new winners i w inside at))
+      ],
+      λ h. subst (λ (d : Book). IsMarked d id) (sym is) (elim h [
+        | inl before ↦ mark_still b w id ((p.marks id).1 (inl before))
+        | inr c ↦ elim (take_cases winners i w inside at id c) [
+          | inl earlier ↦ mark_still b w id ((p.marks id).1 (inr earlier))
+          | inr same ↦ subst (IsMarked (with_mark b w)) (sym same) (mark_new b w)
+        ]
+      ]),
+    );
+  }
 
-winner_marked : (s : Stage) (birth w : ℕ) (fs rs : List ℕ) (b : Book) (c : Classes) → IsJoiningAt s birth w fs rs b c → IsMarked b w
-winner_marked s birth w fs rs b c j = ap (λ m. set.contains m w) j.promoting.marks ∙ mark_new s.before w
+pub promoted_all : (b0 b : Book) (winners : List ℕ) (i : ℕ) → length winners ≤ i → IsPromoted b0 (take i winners) b → IsPromoted b0 winners b
+promoted_all b0 b winners i all p = subst (λ ws. IsPromoted b0 ws b) (take_all i winners all) p
 
-module _ (birth w : ℕ) (ps : List ℕ) (b0 b : Book) (c0 c : Classes) (once : IsOnceEach ps) (i q : ℕ) (inside : i < length ps) (at : q ≡ get_or ps i q) where
-  there : Contains ps q
+-- ---- the pairs are joined
+
+-- what a call needs of the two sides
+pub record Sides (birth : ℕ) (b : Book) (c : Classes) (l r : ℕ) : Type 0 where
+  pub left_live : IsLive b.arena l
+  pub right_live : IsLive b.arena r
+  pub left : IsMarked b l
+  pub right : IsMarked b r
+  pub can : (first (list_of b.arena l) ≡ last (list_of b.arena r) → ⊥) → CanJoin b.arena l r
+  pub new : (first (list_of b.arena l) ≡ last (list_of b.arena r) → ⊥) → IsNewList b (joined_path b.arena l r birth).list
+  pub fits : Fits c b.arena
+
+module _ (birth : ℕ) (pairs : List Join) (b0 b : Book) (c0 c : Classes) (once : IsOnceEach pairs) (i : ℕ) (j : Join) (inside : i < length pairs) (at : j ≡ get_or pairs i j)
+    (before : (s : Stage) → IsJoiningAt s birth [] b0 c0 → AreOwedAt s pairs → IsJoiningAt s birth (take i pairs) b c) where
+  there : Contains pairs j
   there = (i, inside, sym at)
 
-  apart : Contains (take i ps) q → ⊥
-  apart = once_before ps i q once inside at
+  apart : Contains (take i pairs) j → ⊥
+  apart = once_before pairs i j once inside at
 
-  -- what a call needs of the two sides
-  pub record Sides (l r : ℕ) : Type 0 where
-    pub left_live : IsLive b.arena l
-    pub right_live : IsLive b.arena r
-    pub left : IsMarked b l
-    pub right : IsMarked b r
-    pub can : (first (list_of b.arena l) ≡ last (list_of b.arena r) → ⊥) → CanJoin b.arena l r
-    pub new : (first (list_of b.arena l) ≡ last (list_of b.arena r) → ⊥) → IsNewList b (joined_path b.arena l r birth).list
-    pub fits : Fits c b.arena
-
-  pub front_sides : ((s : Stage) → IsJoiningAt s birth w [] s.behind b0 c0 → AreInFront s w ps → IsJoiningAt s birth w (take i ps) s.behind b c) → IsFrontReady birth w ps b0 c0 → Sides q w
-  front_sides before ready =
+  pub pair_sides : AreJoinsReady birth pairs b0 c0 → Sides birth b c j.left j.right
+  pair_sides ready =
       let s : Stage = ready.0 in
-      let h : IsInFront s.before w q = ready.2 q there in
-      let j : IsJoiningAt s birth w (take i ps) s.behind b c = before s ready.1 ready.2 in
-      let m : IsMarked b q = front_marked s.graph birth s.opening s.class w s.rest s.before s.held (take i ps) s.behind b c j q h in
-      let n : IsMarked b w = winner_marked s birth w (take i ps) s.behind b c j in
+      let o : IsOwed s.promoted s.winners j = ready.2 j there in
+      let k : IsJoiningAt s birth (take i pairs) b c = before s ready.1 ready.2 in
       record {
-        left_live = j.promoting.grown.lawful.marked_live q m;
-        right_live = j.promoting.grown.lawful.marked_live w n;
-        left = m;
-        right = n;
-        can = front_can s.graph birth s.opening s.class w s.rest s.before s.held (take i ps) s.behind b c j q h;
-        new = front_fresh s.graph birth s.opening s.class w s.rest s.before s.held (take i ps) s.behind b c j q h birth apart;
-        fits = j.promoting.fits;
+        left_live = left_now s.graph birth s.opening s.class s.winners s.before s.held s.promoted (take i pairs) b c k j o;
+        right_live = right_now s.graph birth s.opening s.class s.winners s.before s.held s.promoted (take i pairs) b c k j o;
+        left = left_marked s.graph birth s.opening s.class s.winners s.before s.held s.promoted (take i pairs) b c k j o;
+        right = right_marked s.graph birth s.opening s.class s.winners s.before s.held s.promoted (take i pairs) b c k j o;
+        can = pair_can s.graph birth s.opening s.class s.winners s.before s.held s.promoted (take i pairs) b c k j o;
+        new = pair_fresh s.graph birth s.opening s.class s.winners s.before s.held s.promoted (take i pairs) b c k j o birth apart;
+        fits = k.forming.fits;
       }
 
-  pub front_more : ((s : Stage) → IsJoiningAt s birth w [] s.behind b0 c0 → AreInFront s w ps → IsJoiningAt s birth w (take i ps) s.behind b c) → (after : Book) (later : Classes) → IsJoined b c q w birth after later → IsBook after → Fits later after.arena → (s : Stage) → IsJoiningAt s birth w [] s.behind b0 c0 → AreInFront s w ps → IsJoiningAt s birth w (take (i + 1) ps) s.behind after later
-  front_more before after later joined lawful fits s start front =
-      let j : IsJoiningAt s birth w (take i ps) s.behind b c = before s start front in
-      subst (λ fs. IsJoiningAt s birth w fs s.behind after later) (sym (take_push ps i q inside at))
-      (front_step s.graph birth s.opening s.class w s.rest s.before s.held (take i ps) s.behind b c j q (front q there) apart after later joined lawful fits)
+  pub pair_more : (after : Book) (later : Classes) → IsJoined b c j.left j.right birth after later → IsBook after → Fits later after.arena → (s : Stage) → IsJoiningAt s birth [] b0 c0 → AreOwedAt s pairs → IsJoiningAt s birth (take (i + 1) pairs) after later
+  pair_more after later joined lawful fits s start owed =
+      let k : IsJoiningAt s birth (take i pairs) b c = before s start owed in
+      subst (λ ps. IsJoiningAt s birth ps after later) (sym (take_push pairs i j inside at))
+      (pair_step s.graph birth s.opening s.class s.winners s.before s.held s.promoted (take i pairs) b c k j (owed j there) apart after later joined lawful fits)
 
-  pub behind_sides : ((s : Stage) → IsJoiningAt s birth w s.front [] b0 c0 → AreBehind s w ps → IsJoiningAt s birth w s.front (take i ps) b c) → IsBehindReady birth w ps b0 c0 → Sides w q
-  behind_sides before ready =
-      let s : Stage = ready.0 in
-      let h : IsBehind s.before w q = ready.2 q there in
-      let j : IsJoiningAt s birth w s.front (take i ps) b c = before s ready.1 ready.2 in
-      let m : IsMarked b q = behind_marked s.graph birth s.opening s.class w s.rest s.before s.held s.front (take i ps) b c j q h in
-      let n : IsMarked b w = winner_marked s birth w s.front (take i ps) b c j in
-      record {
-        left_live = j.promoting.grown.lawful.marked_live w n;
-        right_live = j.promoting.grown.lawful.marked_live q m;
-        left = n;
-        right = m;
-        can = behind_can s.graph birth s.opening s.class w s.rest s.before s.held s.front (take i ps) b c j q h;
-        new = behind_fresh s.graph birth s.opening s.class w s.rest s.before s.held s.front (take i ps) b c j q h birth apart;
-        fits = j.promoting.fits;
-      }
+pub pairs_end : (birth : ℕ) (pairs : List Join) (b0 b : Book) (c0 c : Classes) (i : ℕ) → length pairs ≤ i → ((s : Stage) → IsJoiningAt s birth [] b0 c0 → AreOwedAt s pairs → IsJoiningAt s birth (take i pairs) b c) → (s : Stage) → IsJoiningAt s birth [] b0 c0 → AreOwedAt s pairs → IsJoiningAt s birth pairs b c
+pairs_end birth pairs b0 b c0 c i all before s start owed = subst (λ ps. IsJoiningAt s birth ps b c) (take_all i pairs all) (before s start owed)
 
-  pub behind_more : ((s : Stage) → IsJoiningAt s birth w s.front [] b0 c0 → AreBehind s w ps → IsJoiningAt s birth w s.front (take i ps) b c) → (after : Book) (later : Classes) → IsJoined b c w q birth after later → IsBook after → Fits later after.arena → (s : Stage) → IsJoiningAt s birth w s.front [] b0 c0 → AreBehind s w ps → IsJoiningAt s birth w s.front (take (i + 1) ps) after later
-  behind_more before after later joined lawful fits s start behind =
-      let j : IsJoiningAt s birth w s.front (take i ps) b c = before s start behind in
-      subst (λ rs. IsJoiningAt s birth w s.front rs after later) (sym (take_push ps i q inside at))
-      (behind_step s.graph birth s.opening s.class w s.rest s.before s.held s.front (take i ps) b c j q (behind q there) apart after later joined lawful fits)
+-- ---- the whole class
+
+module _ (birth : ℕ) (winners : List ℕ) (before : Book) (held : Classes) (promoted : Book) (promotion : IsPromoted before winners promoted) where
+  abbrev pub staged : Stage → Stage
+  staged s = record { graph = s.graph; opening = s.opening; class = s.class; winners = winners; before = before; held = held; promoted = promoted }
+
+  pub staged_starts : (s : Stage) → IsTakenAt s birth winners before held → IsJoiningAt (staged s) birth [] promoted held
+  staged_starts s t = joining_starts s.graph birth s.opening s.class winners before held t promoted promotion
+
+  pub staged_done : (s : Stage) → IsTakenAt s birth winners before held → (pairs : List Join) → AreOwed promoted winners pairs → (after : Book) (later : Classes)
+      → ((s : Stage) → IsJoiningAt s birth [] promoted held → AreOwedAt s pairs → IsJoiningAt s birth pairs after later) → IsDoneAt s birth after later
+  staged_done s t pairs owed after later done =
+      joining_ends s.graph birth s.opening s.class winners before held promoted pairs after later
+      (done (staged s) (staged_starts s t) (λ j c. (owed.are j).0 c)) (λ j o. (owed.are j).1 o)

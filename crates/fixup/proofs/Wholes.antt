@@ -15,8 +15,8 @@ use Rattle.path_arena.proofs.Puts.{weight_most, length_most}
 use Rattle.path_book.specs.Book.{Book, IsBook, IsMarked, kept_paths}
 use Rattle.weight_classes.specs.Classes.{Classes, Rank, IsLower, Fits, IsHeld, IsPopped, InOrder, first_of, last_of, rank_of}
 use Rattle.fixup.specs.Growth.{IsAt, IsEdging, IsQueueing}
-use Rattle.fixup.specs.Stages.{Start, Stage, IsStarted, IsBetweenAt, AreWinnersReady, IsWinnerReady}
-use Rattle.fixup.proofs.Classing.{class_path, class_taken, class_weight, class_hops, class_one, class_one_in, class_done}
+use Rattle.fixup.specs.Stages.{Start, Stage, IsStarted, IsTakenAt, IsDoneAt, IsClassReady}
+use Rattle.fixup.proofs.Classing.{class_path, class_taken, class_weight, class_hops, class_one, class_one_in}
 use Rattle.fixup.proofs.Growth.{id_weight}
 use Rattle.fixup.proofs.Heads.{at_start}
 use Rattle.fixup.proofs.Lightest.{above_all, number, number_rises, number_most, lower_by, lightest, lightest_upto, lightest_from, left_over, left_over_is}
@@ -31,43 +31,19 @@ pub each_once : (a : Arena) (ids : List ℕ) → InOrder a ids → IsOnceEach id
 each_once a [] order = tt
 each_once a (id ∷ ids) order = (λ more. same_is_not_less (first_of a id) (last_of a id) (order.0 id more), each_once a ids order.1)
 
-once_drop : (ids : List ℕ) (i : ℕ) → IsOnceEach ids → IsOnceEach (drop i ids)
-once_drop ids zero h = h
-once_drop [] (suc i) h = tt
-once_drop (x ∷ ids) (suc i) h = once_drop ids i h.1
-
-abbrev with_rest : Stage → List ℕ → Stage
-with_rest s ids = record { graph = s.graph; opening = s.opening; class = s.class; rest = ids; before = s.before; held = s.held; front = s.front; behind = s.behind }
-
-module _ (birth : ℕ) (ids : List ℕ) (b0 b : Book) (c0 c : Classes) (once : IsOnceEach ids) (i w : ℕ) (inside : i < length ids) (at : w ≡ get_or ids i w) (before : (s : Stage) → IsBetweenAt s birth ids b0 c0 → IsBetweenAt s birth (drop i ids) b c) where
-  split : drop i ids ≡ w ∷ drop (i + 1) ids
-  split = drop_more ids i w inside ∙ ap (λ x. x ∷ drop (i + 1) ids) (sym at)
-
-  apart : Contains (drop (i + 1) ids) w → ⊥
-  apart = (subst IsOnceEach split (once_drop ids i once)).0
-
-  between : (s : Stage) → IsBetweenAt s birth ids b0 c0 → IsBetweenAt s birth (w ∷ drop (i + 1) ids) b c
-  between s h = subst (λ todo. IsBetweenAt s birth todo b c) split (before s h)
-
-  pub winner_ready : AreWinnersReady birth ids b0 c0 → IsWinnerReady birth w b c
-  winner_ready ready = (with_rest ready.0 (drop (i + 1) ids), between ready.0 ready.1, apart)
-
-  pub winner_done : (after : Book) (later : Classes) → ((s : Stage) → IsBetweenAt s birth (w ∷ s.rest) b c → (Contains s.rest w → ⊥) → IsBetweenAt s birth s.rest after later) → (s : Stage) → IsBetweenAt s birth ids b0 c0 → IsBetweenAt s birth (drop (i + 1) ids) after later
-  winner_done after later done s h = done (with_rest s (drop (i + 1) ids)) (between s h) apart
-
 -- ---- the next class
 
 module _ (g : Graph) (birth : ℕ) (b0 b : Book) (c : Classes) (s : IsAt g birth b0 b c) (later : Classes) (rank : Rank) (winners : List ℕ) (popped : IsPopped c later b.arena rank winners) (fits : Fits later b.arena) where
   pub stage : Stage
-  stage = record { graph = g; opening = b0; class = class_path g birth b0 b c s later rank winners popped fits; rest = []; before = b; held = later; front = []; behind = [] }
+  stage = record { graph = g; opening = b0; class = class_path g birth b0 b c s later rank winners popped fits; winners = winners; before = b; held = later; promoted = b }
 
-  pub stage_taken : IsBetweenAt stage birth winners b later
+  pub stage_taken : IsTakenAt stage birth winners b later
   unfolding stage
   stage_taken = class_taken g birth b0 b c s later rank winners popped fits
 
-  pub stage_done : (after : Book) (final : Classes) → IsBetweenAt stage birth [] after final → IsAt g birth b0 after final
+  pub stage_done : (after : Book) (final : Classes) → IsDoneAt stage birth after final → IsAt g birth b0 after final
   unfolding stage
-  stage_done after final done = class_done g birth b0 stage.class after final done
+  stage_done after final done = done.at
 
   less : (A L M w : ℕ) → L ≤ w → w < A → w + 1 ≤ M → A - M < A - L
   less A L M w l m n = omega (arith, l, m, n)
@@ -88,11 +64,11 @@ module _ (g : Graph) (birth : ℕ) (b0 b : Book) (c : Classes) (s : IsAt g birth
       few_hops : (l h m : ℕ) → l ≤ m → 1 ≤ m → h ≡ l - 1 → h < m
       few_hops l h m upto some e = omega (arith, upto, some, e)
 
-  above : (after : Book) (final : Classes) → IsBetweenAt stage birth [] after final → (r : Rank) (id : ℕ) → IsHeld final r id → number rank + 1 ≤ number r
+  above : (after : Book) (final : Classes) → IsDoneAt stage birth after final → (r : Rank) (id : ℕ) → IsHeld final r id → number rank + 1 ≤ number r
   unfolding stage
   above after final done r id h =
-      let is : rank_of after.arena id ≡ r = done.fits.ranks r id h in
-      let i = id_weight g birth b0 after done.grown id (done.fits.live r id h) in
+      let is : rank_of after.arena id ≡ r = done.at.fits.ranks r id h in
+      let i = id_weight g birth b0 after done.at.grown id (done.at.fits.live r id h) in
       let cl : List ℕ = class_path g birth b0 b c s later rank winners popped fits in
       let lower : IsLower rank r = lower_by rank r (weight_in g (list_of after.arena id)) (hops_of (list_of after.arena id)) (weight_in g cl) (hops_of cl) (done.above (list_of after.arena id) (r, id, h, refl))
       (class_weight g birth b0 b c s later rank winners popped fits) (class_hops g birth b0 b c s later rank winners popped fits)
@@ -100,7 +76,7 @@ module _ (g : Graph) (birth : ℕ) (b0 b : Book) (c : Classes) (s : IsAt g birth
       number_rises rank r lower (few c b s.fits s.grown.lawful.arena rank (class_one g birth b0 b c s later rank winners popped fits) (class_one_in g birth b0 b c s later rank winners popped fits)).0
 
   -- what is held ranks higher after each class
-  pub lighter : (after : Book) (final : Classes) → IsBetweenAt stage birth [] after final → left_over final.held < left_over c.held
+  pub lighter : (after : Book) (final : Classes) → IsDoneAt stage birth after final → left_over final.held < left_over c.held
   lighter after final done =
       let id : ℕ = class_one g birth b0 b c s later rank winners popped fits in
       let held : IsHeld c rank id = class_one_in g birth b0 b c s later rank winners popped fits in
@@ -136,23 +112,20 @@ fits_here c a d e f = subst (λ x. Fits c x) e f
 
 module _ (birth : ℕ) (b0 b : Book) (c0 c : Classes) (before : (s : Start) → IsAt s.graph birth s.opening b0 c0 → IsAt s.graph birth s.opening b c) (started : IsStarted birth b0 c0)
     (later : Classes) (lent : Arena) (same : lent ≡ b.arena) (rank : Rank) (winners : List ℕ) (popped : IsPopped c later lent rank winners) (fits : Fits later lent) (ids : List ℕ) (are : ids ≡ winners) where
-  taken_here : (g : Graph) (o : Book) (s : IsAt g birth o b c) → IsBetweenAt (stage g birth o b c s later rank winners (popped_here c later b.arena lent rank winners same popped) (fits_here later b.arena lent same fits)) birth ids b later
+  taken_here : (g : Graph) (o : Book) (s : IsAt g birth o b c) → IsTakenAt (stage g birth o b c s later rank winners (popped_here c later b.arena lent rank winners same popped) (fits_here later b.arena lent same fits)) birth ids b later
   taken_here g o s =
       let p : IsPopped c later b.arena rank winners = popped_here c later b.arena lent rank winners same popped in
       let f : Fits later b.arena = fits_here later b.arena lent same fits in
-      subst (λ todo. IsBetweenAt (stage g birth o b c s later rank winners p f) birth todo b later) (sym are) (stage_taken g birth o b c s later rank winners p f)
+      subst (λ todo. IsTakenAt (stage g birth o b c s later rank winners p f) birth todo b later) (sym are) (stage_taken g birth o b c s later rank winners p f)
 
-  pub class_ready : AreWinnersReady birth ids b later
+  pub class_ready : IsClassReady birth ids b later
   class_ready =
       let g : Graph = started.0.graph in
       let o : Book = started.0.opening in
       let s : IsAt g birth o b c = before started.0 started.1 in
       (stage g birth o b c s later rank winners (popped_here c later b.arena lent rank winners same popped) (fits_here later b.arena lent same fits), taken_here g o s)
 
-  pub class_once : IsOnceEach ids
-  class_once = subst IsOnceEach (sym are) (each_once lent winners popped.are_winners.in_order)
-
-  module _ (after : Book) (final : Classes) (done : (s : Stage) → IsBetweenAt s birth ids b later → IsBetweenAt s birth [] after final) where
+  module _ (after : Book) (final : Classes) (done : (s : Stage) → IsTakenAt s birth ids b later → IsDoneAt s birth after final) where
     pub class_over : (s : Start) → IsAt s.graph birth s.opening b0 c0 → IsAt s.graph birth s.opening after final
     class_over s h =
         let at : IsAt s.graph birth s.opening b c = before s h in

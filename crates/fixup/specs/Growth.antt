@@ -2,14 +2,16 @@
 use Rattle.std.specs.Prelude.{◌≡◌, ◌≢◌, ℕ, ◌<◌, ◌⊎◌, ◌↔◌, List, [], ◌∷◌, ◌++◌, length, Some, None, option_to_list, Contains}
 use Rattle.apsp_model.specs.Graph.{Graph, HasEdge}
 use Rattle.apsp_model.specs.Walk.{weight_of, first, last}
-use Rattle.path_arena.specs.Arena.{Path, path_at, list_of, left_of, right_of, IsLive, HasAnEdge}
-use Rattle.path_book.specs.Book.{Book, IsMarked, IsBook, with_mark, IsLeastKept, KeepsNone}
-use Rattle.weight_classes.specs.Classes.{Classes, Rank, Fits, IsHeld}
-use Rattle.fixup_math.proofs.Forming.{IsForming}
-use Rattle.fixup_math.proofs.Promotions.{IsJoin}
+use Rattle.path_arena.specs.Arena.{Path, path_at, list_of, IsLive}
+use Rattle.path_book.specs.Book.{Book, IsMarked, IsBook, IsLeastKept, KeepsNone}
+use Rattle.weight_classes.specs.Classes.{Classes, Rank, Fits, IsHeld, InOrder}
+use Rattle.fixup_math.proofs.Forming.{IsForming as IsFormingOf}
+use Rattle.fixup_math.proofs.Promotions.{IsJoin, Then}
 use Rattle.fixup_math.proofs.Ranks.{ByWeightThenHops}
 use Rattle.fixup_math.proofs.Settling.{IsSettling}
 use Rattle.fixup_math.proofs.Winners.{IsInClass}
+use Rattle.fixup.specs.declared.listing.Join.{Join}
+use Rattle.fixup.specs.Owing.{IsPromoted, IsOwed}
 use Rattle.fixup.specs.Views.{Kept, Marked, HeldIn, WonIn}
 
 -- b has what the book b0 had, and else paths of this birth; the weights are those of the graph
@@ -73,50 +75,41 @@ pub record IsOver (g : Graph) (birth : ℕ) (b0 b : Book) : Type 0 where
 abbrev pub ListedIn : Book → List ℕ → List ℕ → Type 0
 ListedIn b ids p = (w : ℕ) × Contains ids w × (list_of b.arena w ≡ p)
 
--- between two winners of the class of cl: these ids are still to be promoted
-pub record IsBetween (g : Graph) (birth : ℕ) (b0 : Book) (cl : List ℕ) (todo : List ℕ) (b : Book) (c : Classes) : Type 0 where
+-- the class of cl is taken, and these are its winners, in the order of their pairs; none is promoted yet
+pub record IsTaken (g : Graph) (birth : ℕ) (b0 : Book) (cl : List ℕ) (winners : List ℕ) (b : Book) (c : Classes) : Type 0 where
   pub grown : IsGrown g birth b0 b
   pub fits : Fits c b.arena
-  pub todo_live : (w : ℕ) → Contains todo w → IsLive b.arena w
+  pub live : (w : ℕ) → Contains winners w → IsLive b.arena w
+  pub in_order : InOrder b.arena winners
   pub held_long : (p : List ℕ) → HeldIn b c p → 1 < length p
   pub above : (p : List ℕ) → HeldIn b c p → ByWeightThenHops g p cl → ⊥
-  pub inside : IsInClass g (ByWeightThenHops g) (Marked b0) (Marked b) (Kept b) (HeldIn b c) (ListedIn b todo) (WonIn c) cl
+  pub inside : IsInClass g (ByWeightThenHops g) (Marked b0) (Marked b) (Kept b) (HeldIn b c) (ListedIn b winners) (WonIn c) cl
 
--- the winner w is promoted where the book was `before` and the classes held `held`; these joins of it are formed by now
-pub record IsPromoting (g : Graph) (birth : ℕ) (b0 : Book) (cl : List ℕ) (w : ℕ) (rest : List ℕ) (before : Book) (held : Classes) (done : List (List ℕ)) (b : Book) (c : Classes) : Type 0 where
-  pub start : IsBetween g birth b0 cl (w ∷ rest) before held
+-- the class is done: the next can be taken, and what is held ranks higher
+pub record IsDone (g : Graph) (birth : ℕ) (b0 : Book) (cl : List ℕ) (b : Book) (c : Classes) : Type 0 where
+  pub at : IsAt g birth b0 b c
+  pub above : (p : List ℕ) → HeldIn b c p → ByWeightThenHops g p cl → ⊥
+
+-- the book was `before` and the classes held `held` when the class was taken, and the book was `promoted` once its winners were historical; these joins are formed by now
+pub record IsForming (g : Graph) (birth : ℕ) (b0 : Book) (cl : List ℕ) (winners : List ℕ) (before : Book) (held : Classes) (promoted : Book) (done : List (List ℕ)) (b : Book) (c : Classes) : Type 0 where
+  pub start : IsTaken g birth b0 cl winners before held
+  pub promotion : IsPromoted before winners promoted
   pub grown : IsGrown g birth b0 b
   pub fits : Fits c b.arena
-  pub marks : b.marked ≡ (with_mark before w).marked
+  pub marks : b.marked ≡ promoted.marked
   pub still : (id : ℕ) → IsLive before.arena id → path_at b.arena id ≡ path_at before.arena id
   pub won : c.won ≡ held.won
   pub vertices : c.vertices ≡ held.vertices
-  pub joins : (p : List ℕ) → Contains done p → IsJoin g (Marked before) (λ q. q ≡ list_of before.arena w) p
-  pub forming : IsForming g (λ p. Marked before p ⊎ (p ≡ list_of before.arena w)) (Kept before) (HeldIn before held) (WonIn held) done (Kept b) (HeldIn b c)
+  pub joins : (p : List ℕ) → Contains done p → IsJoin g (Marked before) (ListedIn before winners) p
+  pub forming : IsFormingOf g (Then (Marked before) (ListedIn before winners)) (Kept before) (HeldIn before held) (WonIn held) done (Kept b) (HeldIn b c)
 
--- by the partners in front of the winner
-abbrev pub FrontJoin : Book → ℕ → List ℕ → List ℕ → Type 0
-FrontJoin before w fs p = (q : ℕ) × Contains fs q × (first (list_of before.arena q) ≢ last (list_of before.arena w)) × (p ≡ list_of before.arena q ++ option_to_list (last (list_of before.arena w)))
+-- the join of one of these pairs, unless its first vertex would be its last
+abbrev pub JoinOf : Book → List Join → List ℕ → Type 0
+JoinOf before pairs p = (j : Join) × Contains pairs j × (first (list_of before.arena j.left) ≢ last (list_of before.arena j.right)) × (p ≡ list_of before.arena j.left ++ option_to_list (last (list_of before.arena j.right)))
 
--- and by those behind it
-abbrev pub BehindJoin : Book → ℕ → List ℕ → List ℕ → Type 0
-BehindJoin before w rs p = (q : ℕ) × Contains rs q × (first (list_of before.arena w) ≢ last (list_of before.arena q)) × (p ≡ list_of before.arena w ++ option_to_list (last (list_of before.arena q)))
-
--- a historical path in front of the winner
-pub record IsInFront (before : Book) (w q : ℕ) : Type 0 where
-  pub marked : IsMarked before q
-  pub meets : right_of before.arena q ≡ left_of before.arena w
-
--- .. or behind it
-pub record IsBehind (before : Book) (w q : ℕ) : Type 0 where
-  pub marked : IsMarked before q
-  pub meets : right_of before.arena w ≡ left_of before.arena q
-
--- the joins with these partners are formed by now
-pub record IsJoining (g : Graph) (birth : ℕ) (b0 : Book) (cl : List ℕ) (w : ℕ) (rest : List ℕ) (before : Book) (held : Classes) (fs rs : List ℕ) (b : Book) (c : Classes) : Type 0 where
+-- .. those of these pairs are
+pub record IsJoining (g : Graph) (birth : ℕ) (b0 : Book) (cl : List ℕ) (winners : List ℕ) (before : Book) (held : Classes) (promoted : Book) (pairs : List Join) (b : Book) (c : Classes) : Type 0 where
   pub done : List (List ℕ)
-  pub promoting : IsPromoting g birth b0 cl w rest before held done b c
-  pub edge : HasAnEdge before.arena w
-  pub fronts : (q : ℕ) → Contains fs q → IsInFront before w q
-  pub behinds : (q : ℕ) → Contains rs q → IsBehind before w q
-  pub are : (p : List ℕ) → Contains done p ↔ (FrontJoin before w fs p ⊎ BehindJoin before w rs p)
+  pub forming : IsForming g birth b0 cl winners before held promoted done b c
+  pub owed : (j : Join) → Contains pairs j → IsOwed promoted winners j
+  pub are : (p : List ℕ) → Contains done p ↔ JoinOf before pairs p

@@ -1,5 +1,6 @@
 pub mod Joining
 pub mod Starts
 pub mod Views
+pub mod Owing
 pub mod Growth
 pub mod Stages

@@ -137,6 +137,9 @@ fn of_one_weight_fewer_edges_come_first(rt: HostRuntime) -> Result<(), Fail> {
     let Some(least) = book.least(0, 2) else {
         return Err(Fail::from("no path from 0 to 2 is kept"));
     };
-    assert_eq!(rt; (book.arena().hops(least), book.is_historical(least)), (1, true));
+    assert_eq!(rt;
+        (book.arena().hops(least), book.is_historical(least)),
+        (1, true)
+    );
     Ok(())
 }

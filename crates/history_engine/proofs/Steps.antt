@@ -1,43 +1,22 @@
 -- One star step: what cleanup and settling leave is what the step of a star gives.
-use Rattle.std.specs.Prelude.{◌≡◌, ℕ, ◌+◌, ◌<◌, ◌⊎◌, ◌↔◌, false, ◌==◌, List, [], ◌∷◌, length, refl, unwrap_or, Contains}
+use Rattle.std.specs.Prelude.{◌≡◌, ℕ, ◌+◌, ◌<◌, ◌⊎◌, ◌↔◌, false, List, [], ◌∷◌, length, refl, Contains}
 use Rattle.std.proofs.Common.{sym, ◌∙◌, ap, subst, arith, inl, inr}
-use Rattle.std.proofs.lemmas.Bool.{cases_Bool, or_cases, eqb-true}
-use Rattle.apsp_model.specs.Graph.{Graph, weight_at, edge_weight}
+use Rattle.apsp_model.specs.Graph.{Graph, weight_at}
 use Rattle.apsp_model.specs.Star.{touches}
-use Rattle.apsp_model.specs.Walk.{weight_of}
 use Rattle.apsp_model.specs.Local.{IsVertex, Avoids, IsLocal}
 use Rattle.apsp_model.specs.Kept.{Moment, after_star, IsWithEdge}
 use Rattle.apsp_model.specs.Counts.{CountIs}
 use Rattle.apsp_model.specs.Paths.{KeptPath, IsOncePerList, IsKeptIn, IsHistoricalIn, HasBirthIn, moment_in}
-use Rattle.apsp_model.specs.Settled.{IsCleaned, HaveWeights, without_star, IsReady, IsSettled}
-use Rattle.fixup_math.proofs.Births.{IsBook, Left, LeftHistorical, book_cleaned, IsStep, step, formed_is, book_after}
-use Rattle.fixup_math.proofs.Counting.{head_in, tail_in, count_same}
-use Rattle.fixup_math.proofs.Start.{IsCleaned as IsCleanedOf, away, vertex_of_one}
+use Rattle.apsp_model.specs.Settled.{IsCleaned, IsSettled}
+use Rattle.fixup_math.proofs.Births.{IsBook, Left, LeftHistorical, IsStep, step, formed_is, book_after}
+use Rattle.fixup_math.proofs.Counting.{count_same}
+use Rattle.fixup_math.proofs.Start.{vertex_of_one}
 use Rattle.history_engine.specs.Seen.{IsSame}
 use Rattle.history_engine.proofs.Moments.{same_turned}
 use Rattle.history_engine.specs.Stepping.{IsStepDone}
 use Rattle.history_engine.proofs.Stepping.{book_on, from_book}
 
--- a walk that avoids v has its weight without the edges at v
-apart_of : (v x y : ℕ) (p : List ℕ) → Avoids (x ∷ y ∷ p) v → touches v (x, y) ≡ false
-apart_of v x y p avoids = elim (cases_Bool (touches v (x, y))) [
-  | inl at ↦ absurd (elim (or_cases (x == v) (y == v) at) [
-    | inl first ↦ avoids (head_in v x (y ∷ p) (eqb-true x v first))
-    | inr second ↦ avoids (tail_in v x (y ∷ p) (head_in v y p (eqb-true y v second)))
-  ])
-  | inr apart ↦ apart
-]
-
-module _ (v k : ℕ) (gb g : Graph) (before : List KeptPath) (same_count : gb.vertices ≡ g.vertices) (same_away : (a b : ℕ) → touches v (a, b) ≡ false → weight_at gb a b ≡ weight_at g a b) (book : IsBook gb (moment_in k before)) (weights : HaveWeights gb before) where
-  weight_apart : (p : List ℕ) → Avoids p v → weight_of gb p ≡ weight_of (without_star g v) p
-  weight_apart [] avoids = refl
-  weight_apart (x ∷ []) avoids = refl
-  weight_apart (x ∷ y ∷ p) avoids =
-      let apart : touches v (x, y) ≡ false = apart_of v x y p avoids in
-      let edge : edge_weight gb x y ≡ edge_weight (without_star g v) x y = ap (λ o. unwrap_or o 0) (same_away x y apart ∙ sym (away g v x y apart)) in
-      let rest : weight_of gb (y ∷ p) ≡ weight_of (without_star g v) (y ∷ p) = weight_apart (y ∷ p) (λ c. avoids (tail_in v x (y ∷ p) c)) in
-      λ i. edge i + rest i
-
+module _ (v k : ℕ) (gb g : Graph) (before : List KeptPath) (same_count : gb.vertices ≡ g.vertices) (same_away : (a b : ℕ) → touches v (a, b) ≡ false → weight_at gb a b ≡ weight_at g a b) (book : IsBook gb (moment_in k before)) where
   abbrev pub m : Moment
   m = moment_in k before
 
@@ -97,25 +76,7 @@ module _ (v k : ℕ) (gb g : Graph) (before : List KeptPath) (same_count : gb.ve
       λ h. let e : HasBirthIn before p b = h.1 in (e.0, entry_left e.0 p e.1 e.2 (elim h.0 [ inl stays ↦ inl stays.1 | inr single ↦ inr single ]), e.2, e.3),
     )
 
-    -- cleanup leaves what settling starts from
-    pub ready : IsReady g v middle
-    ready =
-        let c : IsCleanedOf g v (LeftHistorical m v gb g same_count same_away book) (Left m v gb g same_count same_away book) = book_cleaned m v gb g same_count same_away book in
-        record {
-          closed = λ p q h part. (middle_historical q).1 (c.closed p q ((middle_historical p).0 h) part);
-          kept = λ p. (
-            λ h. let l : IsLocal (without_star g v) (LeftHistorical m v gb g same_count same_away book) p = (c.kept p).0 ((middle_kept p).0 h) in record { simple = l.simple; walk = l.walk; parts = λ q part. (middle_historical q).1 (l.parts q part) },
-            λ l. (middle_kept p).1 ((c.kept p).1 (record { simple = l.simple; walk = l.walk; parts = λ q part. (middle_historical q).0 (l.parts q part) })),
-          );
-          weights = λ e held. let was : Contains before e × (Avoids e.list v ⊎ (length e.list ≡ 1)) = (cleaned e).0 held in weights e was.0 ∙ elim was.1 [ inl avoids ↦ weight_apart e.list avoids | inr short ↦ short_weight e.list short ];
-        }
-      where
-        short_weight : (p : List ℕ) → length p ≡ 1 → weight_of gb p ≡ weight_of (without_star g v) p
-        short_weight [] e = refl
-        short_weight (x ∷ []) e = refl
-        short_weight (x ∷ y ∷ p) e = absurd (omega (arith, e))
-
-    -- and settling that leaves the kept paths after the step
+    -- settling leaves the kept paths after the step
     module _ (after : List KeptPath) (formed promoted removed : ℕ) (settled : IsSettled g (k + 1) middle after formed promoted) (once : IsOncePerList after) (removed_is : CountIs (λ p. IsKeptIn before p × IsWithEdge p × Contains p v) removed) where
       made : IsStep m v gb g same_count same_away book (IsHistoricalIn after) (IsKeptIn after) (HasBirthIn after)
       made = step m v gb g same_count same_away book (IsHistoricalIn after) (IsKeptIn after) (HasBirthIn after)

@@ -10,7 +10,7 @@ use Rattle.apsp_model.specs.Command.{latest_at, cleaned}
 use Rattle.apsp_model.specs.Kept.{IsWithEdge}
 use Rattle.apsp_model.specs.Counts.{CountIs}
 use Rattle.apsp_model.specs.Paths.{KeptPath, IsOncePerList, IsKeptIn, moment_in}
-use Rattle.apsp_model.specs.Settled.{IsCleaned, IsReady, IsSettled}
+use Rattle.apsp_model.specs.Settled.{IsCleaned, AreLocal, IsSettled}
 use Rattle.apsp_model.proofs.Simples.{contained_or_not}
 use Rattle.apsp_model.proofs.Stars.{weight-star_of, weight-star_at, same_graph}
 use Rattle.fixup_math.proofs.Counting.{count_same, count_unique, count_either, count_decides, count_without}
@@ -20,7 +20,7 @@ use Rattle.history_engine.specs.Stepping.{IsStepDone, IsUnderWay, IsBegun}
 use Rattle.history_engine.specs.Times.{left_from}
 use Rattle.history_engine.proofs.Cleaning.{left_start, left_step, left_end}
 use Rattle.history_engine.proofs.Stepping.{to_book, first_step}
-use Rattle.history_engine.proofs.Steps.{ready, step_done}
+use Rattle.history_engine.proofs.Steps.{step_done}
 
 -- ---- one step
 
@@ -28,8 +28,7 @@ use Rattle.history_engine.proofs.Steps.{ready, step_done}
 pub star_ready : (g : Graph) (s : Star) (k : ℕ) (paths : List KeptPath) → AreLawful g k paths → IsStepReady s.vertex (star_of g s) k paths
 star_ready g s k paths lawful = record {
   before = g;
-  same_count = refl;
-  same_away = λ a b apart. sym (weight-star_of g s a b ∙ at (touches s.vertex (a, b)) apart a b);
+  same = record { vertices = refl; weights = λ a b apart. sym (weight-star_of g s a b ∙ at (touches s.vertex (a, b)) apart a b) };
   lawful = lawful;
 }
   where
@@ -38,11 +37,11 @@ star_ready g s k paths lawful = record {
 
 -- a cleaning step changes nothing in the graph
 pub cleaning_ready : (v : ℕ) (g : Graph) (k : ℕ) (paths : List KeptPath) → AreLawful g k paths → IsStepReady v g k paths
-cleaning_ready v g k paths lawful = record { before = g; same_count = refl; same_away = λ a b apart. refl; lawful = lawful }
+cleaning_ready v g k paths lawful = record { before = g; same = record { vertices = refl; weights = λ a b apart. refl }; lawful = lawful }
 
--- cleanup leaves what settling starts from
-pub ready_of : (v : ℕ) (g : Graph) (k : ℕ) (before middle : List KeptPath) → IsStepReady v g k before → IsCleaned v before middle → IsReady g v middle
-ready_of v g k before middle r cleaned = ready v k r.before g before r.same_count r.same_away (to_book r.before (moment_in k before) r.lawful.lawful) r.lawful.weights middle cleaned
+-- the kept paths before a step are local in the graph before it
+pub local_before : (v : ℕ) (g : Graph) (k : ℕ) (paths : List KeptPath) (r : IsStepReady v g k paths) → AreLocal r.before paths
+local_before v g k paths r = record { closed = r.lawful.lawful.closed; kept = r.lawful.lawful.kept; weights = r.lawful.weights }
 
 -- cleanup takes the paths with an edge through v away
 pub taken_away : (v : ℕ) (before middle : List KeptPath) (a b : ℕ) → IsCleaned v before middle → CountIs (λ p. IsKeptIn before p × IsWithEdge p) a → CountIs (λ p. IsKeptIn middle p × IsWithEdge p) b → (b ≤ a) × CountIs (λ p. IsKeptIn before p × IsWithEdge p × Contains p v) (a - b)
@@ -82,7 +81,7 @@ taken_away v before middle a b cleaned at_first at_last =
 pub done_of : (v : ℕ) (g : Graph) (k : ℕ) (before middle after : List KeptPath) (formed promoted a b : ℕ) → IsStepReady v g k before → IsCleaned v before middle → IsSettled g (k + 1) middle after formed promoted → IsOncePerList after
     → CountIs (λ p. IsKeptIn before p × IsWithEdge p) a → CountIs (λ p. IsKeptIn middle p × IsWithEdge p) b → IsStepDone v g k before after formed (a - b)
 done_of v g k before middle after formed promoted a b r cleaned settled once at_first at_last =
-    step_done v k r.before g before r.same_count r.same_away (to_book r.before (moment_in k before) r.lawful.lawful) r.lawful.weights middle cleaned
+    step_done v k r.before g before r.same.vertices r.same.weights (to_book r.before (moment_in k before) r.lawful.lawful) middle cleaned
     after formed promoted (a - b) settled once (taken_away v before middle a b cleaned at_first at_last).1
 
 -- ---- the steps of an update

@@ -1,7 +1,7 @@
 -- What holds of the kept paths of an engine between two steps.
-use Rattle.std.specs.Prelude.{◌≡◌, ℕ, ◌↔◌, false, List}
-use Rattle.apsp_model.specs.Graph.{Graph, weight_at}
-use Rattle.apsp_model.specs.Star.{touches}
+use Rattle.std.specs.Prelude.{◌≡◌, ℕ, ◌↔◌, List}
+use Rattle.apsp_model.specs.Graph.{Graph}
+use Rattle.apsp_model.specs.Star.{AgreeAway}
 use Rattle.apsp_model.specs.Part.{IsClosedUnderParts}
 use Rattle.apsp_model.specs.Least.{IsLeastWalk}
 use Rattle.apsp_model.specs.Local.{IsVertex, IsLocal}
@@ -27,6 +27,5 @@ pub record AreLawful (g : Graph) (steps : ℕ) (paths : List KeptPath) : Type 0 
 -- what a star step at v to the graph g starts from: the kept paths are lawful in a graph that differs at v alone
 pub record IsStepReady (v : ℕ) (g : Graph) (steps : ℕ) (paths : List KeptPath) : Type 0 where
   pub before : Graph
-  pub same_count : before.vertices ≡ g.vertices
-  pub same_away : (a b : ℕ) → touches v (a, b) ≡ false → weight_at before a b ≡ weight_at g a b
+  pub same : AgreeAway v before g
   pub lawful : AreLawful before steps paths

@@ -10,6 +10,7 @@ use std::alloc::Global;
 use std::marker::Sync;
 use std::test::Fail;
 use std::thread::Threads;
+use version_face::{NO_DISTANCE, NO_HOPS, NO_NEXT, Version};
 
 /// Three vertices, with an edge from 0 to 2 and then a lighter way by 1.
 fn two_stars<R: Threads + Sync>(rt: &R, alloc: Global, smooth: bool) -> Result<Engine, Fail>
@@ -102,6 +103,26 @@ fn a_cleaning_step_forms_the_edge_again(rt: HostRuntime) -> Result<(), Fail> {
         }
     );
     assert_eq!(rt; engine.birth(&[0, 2]), Some(3));
+    Ok(())
+}
+
+#[test]
+fn a_version_is_filled(rt: HostRuntime) -> Result<(), Fail> {
+    let engine = two_stars(&rt, rt.alloc(), false)?;
+    let mut version = Version::new(rt.alloc(), 3)?;
+    assert_eq!(rt; engine.graph().weight(0, 2), Some(9));
+    engine.fill(&mut version);
+    assert_eq!(rt;
+        (version.number(), version.weight(0, 2), version.weight(2, 0)),
+        (2, Some(9), None)
+    );
+    assert_eq!(rt; version.dist_row(0), [0, 4, 7].as_slice());
+    assert_eq!(rt; version.hops_row(0), [0, 1, 2].as_slice());
+    assert_eq!(rt; version.next_row(0), [0, 1, 1].as_slice());
+    assert_eq!(rt; version.dist_row(2), [NO_DISTANCE, NO_DISTANCE, 0].as_slice());
+    assert_eq!(rt; version.hops_row(2), [NO_HOPS, NO_HOPS, 0].as_slice());
+    assert_eq!(rt; version.next_row(2), [NO_NEXT, NO_NEXT, 2].as_slice());
+    assert!(rt; version.walk(0, 2).eq([0, 1, 2]));
     Ok(())
 }
 

@@ -19,11 +19,11 @@ use Rattle.script_reader.specs.declared.Command.TheVariants as command
 use Rattle.script_reader.specs.declared.Group.{Group}
 use Rattle.script_reader.specs.declared.Group.TheVariants.{Out, In}
 use Rattle.script_reader.specs.declared.Line.{Line}
-use Rattle.script_reader.specs.declared.Line.TheVariants.{Nothing, Vertices, Star, Edge, Cut, Dist, Path, Row, Stats, Age}
+use Rattle.script_reader.specs.declared.Line.TheVariants.{Nothing, Vertices, Star, Edge, Cut, Dist, Path, Row, Stats, Age, Cert}
 use Rattle.script_reader.specs.Words.{is_comment, command_of, is_out, is_in}
 use Rattle.script_reader.specs.Refused.{Refusal, refused, ◌>>=◌}
 use Rattle.script_reader.specs.Edges.{number_at, vertex_below, vertex_at, is_no_weight, weight_in_range, weight_at_word, is_colon, edge_of, star_with_edge, star_with_item, star_with_groups, first_misfit, vertices_at}
-use Rattle.script_reader.specs.Meaning.{misplaced, vertices_line, star_unless, star_line, edge_line, two_vertices, cut_line, row_line, stats_line, age_line, line_with, line_unless, command_line, line_of_words}
+use Rattle.script_reader.specs.Meaning.{misplaced, vertices_line, star_unless, star_line, edge_line, two_vertices, cut_line, row_line, stats_line, age_line, cert_line, line_with, line_unless, command_line, line_of_words}
 use Rattle.script_reader.specs.Answer.{IsAnswer, Fits}
 
 -- where both steps were accepted
@@ -229,6 +229,10 @@ stats_line_fits : (n : ℕ) (ws : List (List ℕ)) (l : Line) → IsVertexCount 
 stats_line_fits n [] l count e = subst (Fits n) (as_line Stats l e) (omega (arith, count.some))
 stats_line_fits n (w ∷ ws) l count e = cc
 
+cert_line_fits : (n : ℕ) (ws : List (List ℕ)) (l : Line) → IsVertexCount n → cert_line ws ≡ Ok l → Fits n l
+cert_line_fits n [] l count e = subst (Fits n) (as_line Cert l e) (omega (arith, count.some))
+cert_line_fits n (w ∷ ws) l count e = cc
+
 age_line_fits : (n : ℕ) (ws : List (List ℕ)) (l : Line) → age_line n ws ≡ Ok l → Fits n l
 age_line_fits n [] l e = cc
 age_line_fits n (w ∷ ws) l e =
@@ -245,6 +249,7 @@ line_fits command.Path n ws l count e = path_fits n ws l e
 line_fits command.Row n ws l count e = row_line_fits n ws l e
 line_fits command.Stats n ws l count e = stats_line_fits n ws l (count (λ h. cc)) e
 line_fits command.Age n ws l count e = age_line_fits n ws l e
+line_fits command.Cert n ws l count e = cert_line_fits n ws l (count (λ h. cc)) e
 line_fits command.Block n ws l count e = cc
 line_fits command.Ask n ws l count e = cc
 line_fits command.End n ws l count e = cc
@@ -266,6 +271,7 @@ some_vertices context c most none other = record { some = at c other none; most 
     at command.Row other e = test (context.vertices == 0) refl e
     at command.Stats other e = test (context.vertices == 0) refl e
     at command.Age other e = test (context.vertices == 0) refl e
+    at command.Cert other e = test (context.vertices == 0) refl e
     at command.Block other e = cc
     at command.Ask other e = cc
     at command.End other e = cc

@@ -11,7 +11,7 @@ use Rattle.script_reader.specs.declared.code.TheConstants.{SHAPE, VERTEX, SELF_E
 use Rattle.script_reader.specs.declared.LineError.{LineError}
 use Rattle.script_reader.specs.declared.LineError.TheVariants.{Refused, Memory}
 use Rattle.script_reader.specs.declared.Line.{Line}
-use Rattle.script_reader.specs.declared.Line.TheVariants.{Vertices, Star, Edge, Cut, Dist, Path, Row, Stats, Age}
+use Rattle.script_reader.specs.declared.Line.TheVariants.{Vertices, Star, Edge, Cut, Dist, Path, Row, Stats, Age, Cert}
 use Rattle.script_reader.specs.declared.scan.Word.{Word}
 use Rattle.script_reader.specs.declared.scan.Words.{Words}
 use Rattle.script_reader.specs.Scan.{words_left}
@@ -83,4 +83,5 @@ Fits n (Path x y) = (x < n) × (y < n)
 Fits n (Row x) = x < n
 Fits n Stats = 0 < n
 Fits n (Age list) = (0 < length list) × All (λ x. x < n) list
+Fits n Cert = 0 < n
 Fits n _ = ⊤

@@ -8,7 +8,7 @@ use Rattle.script_reader.specs.declared.Context.{Context}
 use Rattle.script_reader.specs.declared.Command.{Command}
 use Rattle.script_reader.specs.declared.Command.TheVariants as command
 use Rattle.script_reader.specs.declared.Line.{Line}
-use Rattle.script_reader.specs.declared.Line.TheVariants.{Nothing, Vertices, Star, Edge, Cut, Dist, Path, Row, Stats, Age}
+use Rattle.script_reader.specs.declared.Line.TheVariants.{Nothing, Vertices, Star, Edge, Cut, Dist, Path, Row, Stats, Age, Cert}
 use Rattle.script_reader.specs.declared.Group.TheVariants.{Out}
 use Rattle.script_reader.specs.Words.{words_of, is_comment, command_of}
 use Rattle.script_reader.specs.Refused.{Refusal, refused, ◌>>=◌}
@@ -67,6 +67,10 @@ abbrev pub stats_line : List (List ℕ) → Result Line Refusal
 stats_line [] = Ok Stats
 stats_line arguments = misshapen 0 arguments
 
+abbrev pub cert_line : List (List ℕ) → Result Line Refusal
+cert_line [] = Ok Cert
+cert_line arguments = misshapen 0 arguments
+
 abbrev pub age_line : ℕ → List (List ℕ) → Result Line Refusal
 age_line n [] = refused SHAPE 2
 age_line n (w ∷ ws) = vertices_at n 2 (w ∷ ws) >>= (λ us. Ok (Age us))
@@ -82,6 +86,7 @@ line_with command.Path n arguments = two_vertices n arguments >>= (λ p. Ok (Pat
 line_with command.Row n arguments = row_line n arguments
 line_with command.Stats n arguments = stats_line arguments
 line_with command.Age n arguments = age_line n arguments
+line_with command.Cert n arguments = cert_line arguments
 line_with _ n arguments = refused NEEDS_LIVE 1
 
 abbrev pub line_unless : Option ℕ → Command → ℕ → List (List ℕ) → Result Line Refusal

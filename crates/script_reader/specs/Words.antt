@@ -3,7 +3,7 @@ use Rattle.std.specs.Prelude.{ℕ, Bool, true, false, ◌==◌, ◌||◌, if◌t
 use Rattle.std.specs.List.{slice_split, prefix_len}
 use Rattle.std.specs.Str.{bytes_eq}
 use Rattle.script_reader.specs.declared.Command.{Command}
-use Rattle.script_reader.specs.declared.Command.TheVariants.{Vertices, Star, Edge, Cut, Dist, Path, Row, Stats, Age, Block, Ask, End}
+use Rattle.script_reader.specs.declared.Command.TheVariants.{Vertices, Star, Edge, Cut, Dist, Path, Row, Stats, Age, Cert, Block, Ask, End}
 use Rattle.script_reader.specs.declared.Group.{Group}
 use Rattle.script_reader.specs.declared.Group.TheVariants.{Out, In}
 
@@ -40,10 +40,11 @@ command_of w =
     else (if bytes_eq w (codes "row") then Some Row
     else (if bytes_eq w (codes "stats") then Some Stats
     else (if bytes_eq w (codes "age") then Some Age
+    else (if bytes_eq w (codes "cert") then Some Cert
     else (if bytes_eq w (codes "block") then Some Block
     else (if bytes_eq w (codes "ask") then Some Ask
     else (if bytes_eq w (codes "end") then Some End
-    else None)))))))))))
+    else None))))))))))))
 
 -- the word that begins a group of a star
 abbrev pub is_out : List ℕ → Bool

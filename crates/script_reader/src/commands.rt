@@ -29,6 +29,8 @@ pub fn command_of(word: &[u8]) -> Option<Command>
         Some(Command::Stats)
     } else if is(word, b"age") {
         Some(Command::Age)
+    } else if is(word, b"cert") {
+        Some(Command::Cert)
     } else if is(word, b"block") {
         Some(Command::Block)
     } else if is(word, b"ask") {

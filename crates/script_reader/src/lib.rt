@@ -116,6 +116,7 @@ pub enum Line {
     Row { x: u32 },
     Stats,
     Age(VertexList),
+    Cert,
 }
 
 /// The first words that are commands.
@@ -130,6 +131,7 @@ enum Command {
     Row,
     Stats,
     Age,
+    Cert,
     Block,
     Ask,
     End,
@@ -219,7 +221,7 @@ mod tests {
 
     fn numbers(line: &Line) -> [u32; 3] {
         match line {
-            Line::Nothing | Line::Stats => [0, 0, 0],
+            Line::Nothing | Line::Stats | Line::Cert => [0, 0, 0],
             Line::Vertices(n) => [*n, 0, 0],
             Line::Star(star) => [star.vertex(), star.vertices(), 0],
             Line::Edge { u, v, w } => [*u, *v, *w],
@@ -237,7 +239,9 @@ mod tests {
             (2, "vertices 2", (2, 1)),
             (3, "foo", (3, 1)),
             (2, "\0", (3, 1)),
-            (3, "cert", (3, 1)),
+            (3, "Cert", (3, 1)),
+            (0, "cert", (1, 1)),
+            (3, "cert 0", (4, 2)),
             (0, "vertices", (4, 2)),
             (0, "vertices 2 2", (4, 3)),
             (3, "dist 0", (4, 3)),
@@ -288,6 +292,7 @@ mod tests {
             (3, "dist 0 0", [0, 0, 0]),
             (3, "path 2 1", [2, 1, 0]),
             (3, "stats", [0, 0, 0]),
+            (1, " cert ", [0, 0, 0]),
             (3, "age 0 0", [2, 0, 0]),
             (3, "star 1", [1, 3, 0]),
             (2, "star 0 out 1:4294967295", [0, 2, 0]),

@@ -3,7 +3,7 @@ ghost use Rattle.std.specs.Prelude.{◌≡◌, ℕ, IfOk};
 ghost use Rattle.graph_store.specs.Making.{IsVertexCount};
 ghost use Rattle.script_reader.specs.Scan.{words_left};
 ghost use Rattle.script_reader.specs.Answer.{IsAnswer, IsOne, AreTwo, AreThree, IsRequired, IsAtEnd, IsListAnswer};
-ghost use Rattle.script_reader.specs.Meaning.{vertices_line, star_line, edge_line, cut_line, two_vertices, row_line, stats_line, age_line, line_with};
+ghost use Rattle.script_reader.specs.Meaning.{vertices_line, star_line, edge_line, cut_line, two_vertices, row_line, stats_line, age_line, cert_line, line_with};
 ghost use Rattle.script_reader.specs.Edges.{vertices_at};
 
 use crate::groups::{first_misfit, set_groups};
@@ -41,6 +41,7 @@ pub fn line_with(
         Command::Row => row_line(n, words),
         Command::Stats => stats_line(words),
         Command::Age => age_line(alloc, n, words),
+        Command::Cert => cert_line(words),
         Command::Block | Command::Ask | Command::End => Err(refused(code::NEEDS_LIVE, 1)),
     }
 }
@@ -122,6 +123,14 @@ fn stats_line(words: Words<'_>) -> Result<Line, LineError>
 {
     at_end(words)?;
     Ok(Line::Stats)
+}
+
+fn cert_line(words: Words<'_>) -> Result<Line, LineError>
+    requires { words.place ≡ 2 }
+    ensures { IsAnswer (cert_line (words_left words.entry)) result }
+{
+    at_end(words)?;
+    Ok(Line::Cert)
 }
 
 fn age_line(alloc: Global, n: u32, words: Words<'_>) -> Result<Line, LineError>

@@ -9,6 +9,7 @@ use Rattle.path_arena.specs.Arena.{Arena, IsLive}
 use Rattle.weight_classes.specs.declared.buckets.Bucket.{Bucket}
 use Rattle.weight_classes.specs.Classes.{Classes, Rank, IsHeld, IsPushed, IsPopped, Fits, AgreeOnHeld, ranked, rank_of}
 use Rattle.weight_classes.specs.Inside.{rank_in, ranks_in, nexts_in, idss_in, rank_at, ids_at, no_rank, held_by}
+use Rattle.weight_classes.specs.Ids.{ids_of}
 
 -- ---- lists
 
@@ -142,8 +143,8 @@ held_same [] (ids ∷ idss) r many = absurd (omega (arith, many))
 held_same (s ∷ rs) [] r many = absurd (omega (arith, many))
 held_same (s ∷ rs) (ids ∷ idss) r many = ap (λ l. ranked s ids ++ l) (held_same rs idss r (omega (arith, many)))
 
-pub ids_get : (bs : List Bucket) (i : ℕ) (b : Bucket) → i < length bs → ids_at (idss_in bs) i ≡ (get_or bs i b).ids.items
-ids_get bs i b inside = get_or-map (λ (c : Bucket). c.ids.items) bs i b [] inside
+pub ids_get : (bs : List Bucket) (i : ℕ) (b : Bucket) → i < length bs → ids_at (idss_in bs) i ≡ ids_of (get_or bs i b).ids
+ids_get bs i b inside = get_or-map (λ (c : Bucket). ids_of c.ids) bs i b [] inside
 
 -- ---- a bucket with other ids
 
@@ -154,13 +155,13 @@ module _ (bs : List Bucket) (i : ℕ) (b d : Bucket) (inside : i < length bs) (a
   pub nexts_same : d.next ≡ b.next → nexts_in (slice_set bs i d) ≡ nexts_in bs
   nexts_same same = map-set (λ (c : Bucket). c.next) bs i d ∙ ap (slice_set (nexts_in bs) i) (same ∙ ap (λ (c : Bucket). c.next) at ∙ sym (get_or-map (λ (c : Bucket). c.next) bs i b 0 inside)) ∙ set-get_or (nexts_in bs) i 0
 
-  pub idss_now : idss_in (slice_set bs i d) ≡ slice_set (idss_in bs) i d.ids.items
-  idss_now = map-set (λ (c : Bucket). c.ids.items) bs i d
+  pub idss_now : idss_in (slice_set bs i d) ≡ slice_set (idss_in bs) i (ids_of d.ids)
+  idss_now = map-set (λ (c : Bucket). ids_of c.ids) bs i d
 
-  pub ids_is : ids_at (idss_in bs) i ≡ b.ids.items
-  ids_is = get_or-map (λ (c : Bucket). c.ids.items) bs i b [] inside ∙ ap (λ (c : Bucket). c.ids.items) (sym at)
+  pub ids_is : ids_at (idss_in bs) i ≡ ids_of b.ids
+  ids_is = get_or-map (λ (c : Bucket). ids_of c.ids) bs i b [] inside ∙ ap (λ (c : Bucket). ids_of c.ids) (sym at)
 
-  pub idss_same : d.ids.items ≡ b.ids.items → idss_in (slice_set bs i d) ≡ idss_in bs
+  pub idss_same : ids_of d.ids ≡ ids_of b.ids → idss_in (slice_set bs i d) ≡ idss_in bs
   idss_same same = idss_now ∙ ap (slice_set (idss_in bs) i) (same ∙ sym ids_is) ∙ set-get_or (idss_in bs) i []
 
 -- ---- classes

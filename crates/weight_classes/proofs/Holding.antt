@@ -13,6 +13,7 @@ use Rattle.weight_classes.specs.Inside.{rank_in, ranks_in, nexts_in, idss_in, ra
 use Rattle.weight_classes.proofs.Held.{in_cons, head_there, tail_there, ranks_same, nexts_same, idss_now, ids_is, ids_more, held_same, held_more}
 use Rattle.weight_classes.proofs.Chains.{rank_is}
 use Rattle.weight_classes.proofs.Turns.{turns_more, turns_bucket}
+use Rattle.weight_classes.specs.Ids.{ids_of}
 
 pub ok_then : {A E P : Type 0} (r : Result A E) → is_ok r ≡ true → OnOk r P → P
 ok_then (Ok a) ok p = p
@@ -35,7 +36,7 @@ module _ (bs : List Bucket) (i : ℕ) (b d : Bucket) (inside : i < length bs) (a
       subst (λ (rs : List Rank). AreIndexed (length heads) heads rs (nexts_in (slice_set bs i d))) (sym (ranks_same bs i b d inside at same))
       (subst (λ (ns : List ℕ). AreIndexed (length heads) heads (ranks_in bs) ns) (sym (nexts_same bs i b d inside at next)) s)
 
-  queue_by : (turns : List Turn) → AreTurns turns (ranks_in bs) (slice_set (idss_in bs) i d.ids.items) (λ j. ⊥) → IsQueue turns (slice_set bs i d)
+  queue_by : (turns : List Turn) → AreTurns turns (ranks_in bs) (slice_set (idss_in bs) i (ids_of d.ids)) (λ j. ⊥) → IsQueue turns (slice_set bs i d)
   queue_by turns s =
       subst (λ (rs : List Rank). AreTurns turns rs (idss_in (slice_set bs i d)) (λ j. ⊥)) (sym (ranks_same bs i b d inside at same))
       (subst (λ (idss : List (List ℕ)). AreTurns turns (ranks_in bs) idss (λ j. ⊥)) (sym (idss_now bs i b d inside at)) s)
@@ -44,33 +45,33 @@ module _ (bs : List Bucket) (i : ℕ) (b d : Bucket) (inside : i < length bs) (a
   inside_ranks = omega (arith, inside, length-map bs rank_in)
 
   pub queue_pushed : (turns now : List Turn) → IsQueue turns bs → IsPermutation (turn_of (rank_in b) i ∷ turns) now → KeepsHeap turn_cmp turns now → IsQueue now (slice_set bs i d)
-  queue_pushed turns now s moved keeps = queue_by now (turns_pushed turns (ranks_in bs) (idss_in bs) i s inside_ranks now (subst (λ (r : Rank). IsPermutation (turn_of r i ∷ turns) now) (sym (rank_is bs i b inside at)) moved) keeps d.ids.items)
+  queue_pushed turns now s moved keeps = queue_by now (turns_pushed turns (ranks_in bs) (idss_in bs) i s inside_ranks now (subst (λ (r : Rank). IsPermutation (turn_of r i ∷ turns) now) (sym (rank_is bs i b inside at)) moved) keeps (ids_of d.ids))
 
-  pub queue_kept : (turns : List Turn) → IsQueue turns bs → 0 < length b.ids.items → IsQueue turns (slice_set bs i d)
-  queue_kept turns s some = queue_by turns (turns_kept turns (ranks_in bs) (idss_in bs) i s inside_ranks (omega (arith, some, ap length (ids_is bs i b d inside at))) d.ids.items)
+  pub queue_kept : (turns : List Turn) → IsQueue turns bs → 0 < length (ids_of b.ids) → IsQueue turns (slice_set bs i d)
+  queue_kept turns s some = queue_by turns (turns_kept turns (ranks_in bs) (idss_in bs) i s inside_ranks (omega (arith, some, ap length (ids_is bs i b d inside at))) (ids_of d.ids))
 
 module _ (bs : List Bucket) (i : ℕ) (b d : Bucket) (inside : i < length bs) (at : b ≡ get_or bs i b) where
-  pub roomy_set : (most now : ℕ) → AreRoomy most bs → most ≤ now → length d.ids.items ≤ now → AreRoomy now (slice_set bs i d)
+  pub roomy_set : (most now : ℕ) → AreRoomy most bs → most ≤ now → length (ids_of d.ids) ≤ now → AreRoomy now (slice_set bs i d)
   roomy_set most now room upto few k = elim (cases_eq k i) [
-    | inl here ↦ omega (arith, few, ap length (ap (λ (js : List (List ℕ)). ids_at js k) (idss_now bs i b d inside at) ∙ ap (ids_at (slice_set (idss_in bs) i d.ids.items)) here ∙ get_or-set_same (idss_in bs) i d.ids.items [] (omega (arith, inside, length-map bs (λ (c : Bucket). c.ids.items)))))
-    | inr apart ↦ omega (arith, room k, upto, ap length (ap (λ (js : List (List ℕ)). ids_at js k) (idss_now bs i b d inside at) ∙ get_or-set_other (idss_in bs) i k d.ids.items [] apart))
+    | inl here ↦ omega (arith, few, ap length (ap (λ (js : List (List ℕ)). ids_at js k) (idss_now bs i b d inside at) ∙ ap (ids_at (slice_set (idss_in bs) i (ids_of d.ids))) here ∙ get_or-set_same (idss_in bs) i (ids_of d.ids) [] (omega (arith, inside, length-map bs (λ (c : Bucket). ids_of c.ids)))))
+    | inr apart ↦ omega (arith, room k, upto, ap length (ap (λ (js : List (List ℕ)). ids_at js k) (idss_now bs i b d inside at) ∙ get_or-set_other (idss_in bs) i k (ids_of d.ids) [] apart))
   ]
 
   -- the id stands behind those of the bucket
-  pub idss_pushed : (id : ℕ) → d.ids.items ≡ b.ids.items ++ id ∷ [] → idss_in (slice_set bs i d) ≡ slice_set (idss_in bs) i (ids_at (idss_in bs) i ++ id ∷ [])
+  pub idss_pushed : (id : ℕ) → (ids_of d.ids) ≡ (ids_of b.ids) ++ id ∷ [] → idss_in (slice_set bs i d) ≡ slice_set (idss_in bs) i (ids_at (idss_in bs) i ++ id ∷ [])
   idss_pushed id is = idss_now bs i b d inside at ∙ ap (slice_set (idss_in bs) i) (is ∙ ap (λ (js : List ℕ). js ++ id ∷ []) (sym (ids_is bs i b d inside at)))
 
 -- ---- an empty bucket more
 
 module _ (old new : List Bucket) (added : IsBucketAdded old new) where
   as_many : (bs : List Bucket) → length (idss_in bs) ≡ length (ranks_in bs)
-  as_many bs = length-map bs (λ (c : Bucket). c.ids.items) ∙ sym (length-map bs rank_in)
+  as_many bs = length-map bs (λ (c : Bucket). ids_of c.ids) ∙ sym (length-map bs rank_in)
 
   ranks_grown : (b : Bucket) → ranks_in (old ++ b ∷ []) ≡ ranks_in old ++ rank_in b ∷ []
   ranks_grown b = map-append rank_in old (b ∷ [])
 
-  idss_grown : (b : Bucket) → b.ids.items ≡ [] → idss_in (old ++ b ∷ []) ≡ idss_in old ++ [] ∷ []
-  idss_grown b none = map-append (λ (c : Bucket). c.ids.items) old (b ∷ []) ∙ ap (λ (ids : List ℕ). idss_in old ++ ids ∷ []) none
+  idss_grown : (b : Bucket) → (ids_of b.ids) ≡ [] → idss_in (old ++ b ∷ []) ≡ idss_in old ++ [] ∷ []
+  idss_grown b none = map-append (λ (c : Bucket). ids_of c.ids) old (b ∷ []) ∙ ap (λ (ids : List ℕ). idss_in old ++ ids ∷ []) none
 
   pub added_held : held_in new ≡ held_in old
   added_held = elim added [

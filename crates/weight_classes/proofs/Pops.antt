@@ -11,6 +11,7 @@ use Rattle.weight_classes.specs.Choice.{IsWonAt, place_of, HasEnds, IsChosen}
 use Rattle.weight_classes.proofs.Rows.{same_pair, in_order, place_below, one_place}
 use Rattle.weight_classes.proofs.Held.{same_rank, held_where, held_less, held_there, held_none, some_id, IsIn}
 use Rattle.weight_classes.proofs.Turns.{turns_taken}
+use Rattle.weight_classes.specs.Ids.{ids_of}
 
 lower_or_more : (r s : Rank) → r ≢ s → (IsLower s r → ⊥) → IsLower r s
 lower_or_more r s apart not_lower = elim (cases_lt r.weight s.weight) [
@@ -107,7 +108,7 @@ module _ (h : Classes) (a : Arena) (n : ℕ) (bs : List Bucket) (won : List Bool
   held_is = sym (ap (λ (c : Classes). c.held) is)
 
   as_many : length (idss_in bs) ≡ length (ranks_in bs)
-  as_many = length-map bs (λ (c : Bucket). c.ids.items) ∙ sym (length-map bs rank_in)
+  as_many = length-map bs (λ (c : Bucket). ids_of c.ids) ∙ sym (length-map bs rank_in)
 
   pub none_held : AreEmpty bs → h.held ≡ []
   none_held none = held_is ∙ held_none (ranks_in bs) (idss_in bs) none
@@ -124,7 +125,7 @@ module _ (h : Classes) (a : Arena) (n : ℕ) (bs : List Bucket) (won : List Bool
 
     pub roomy_taken : (most now : ℕ) → AreRoomy most bs → most ≤ now → AreRoomy now after
     roomy_taken most now room upto i = elim (cases_eq i at) [
-      | inl here ↦ omega (arith, ap length (ap (λ (js : List (List ℕ)). ids_at js i) idss ∙ ap (ids_at (slice_set (idss_in bs) at [])) here ∙ get_or-set_same (idss_in bs) at [] [] (omega (arith, next.inside, length-map bs (λ (c : Bucket). c.ids.items)))))
+      | inl here ↦ omega (arith, ap length (ap (λ (js : List (List ℕ)). ids_at js i) idss ∙ ap (ids_at (slice_set (idss_in bs) at [])) here ∙ get_or-set_same (idss_in bs) at [] [] (omega (arith, next.inside, length-map bs (λ (c : Bucket). ids_of c.ids)))))
       | inr apart ↦ omega (arith, room i, upto, ap length (ap (λ (js : List (List ℕ)). ids_at js i) idss ∙ get_or-set_other (idss_in bs) at i [] [] apart))
     ]
 

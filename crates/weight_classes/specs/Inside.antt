@@ -7,6 +7,7 @@ use Rattle.std.specs.declared.cmp.Reverse.{Reverse}
 use Rattle.weight_classes.specs.declared.buckets.Bucket.{Bucket}
 use Rattle.weight_classes.specs.declared.classes.Classes.TheInside.{Inside}
 use Rattle.weight_classes.specs.declared.buckets.TheConstants.{NO_BUCKET}
+use Rattle.weight_classes.specs.Ids.{ids_of}
 use Rattle.weight_classes.specs.Classes.{Classes, Rank, IsLower, ranked}
 
 -- ---- buckets
@@ -21,7 +22,7 @@ abbrev pub nexts_in : List Bucket → List ℕ
 nexts_in bs = map (λ b. b.next) bs
 
 abbrev pub idss_in : List Bucket → List (List ℕ)
-idss_in bs = map (λ b. b.ids.items) bs
+idss_in bs = map (λ b. ids_of b.ids) bs
 
 abbrev pub no_rank : Rank
 no_rank = record { weight = 0; hops = 0 }
@@ -50,7 +51,7 @@ AreRoomy most bs = (i : ℕ) → length (ids_at (idss_in bs) i) ≤ most
 
 -- one bucket more at most, which has no ids
 abbrev pub IsBucketAdded : List Bucket → List Bucket → Type 0
-IsBucketAdded old new = (new ≡ old) ⊎ ((b : Bucket) × (b.ids.items ≡ []) × (new ≡ old ++ b ∷ []))
+IsBucketAdded old new = (new ≡ old) ⊎ ((b : Bucket) × (ids_of b.ids ≡ []) × (new ≡ old ++ b ∷ []))
 
 -- ---- the bucket of a rank
 

@@ -1,3 +1,4 @@
 pub mod Classes
+pub mod Ids
 pub mod Inside
 pub mod Choice

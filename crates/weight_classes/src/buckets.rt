@@ -2,12 +2,13 @@
 
 ghost use Rattle.std.specs.Prelude.{◌≡◌, ◌≢◌, ℕ, List, ◌+◌, ◌<◌, ◌≤◌, [], ◌∷◌, ◌++◌, IfOk, IfSome, IfNone, OnOk, OnErr, MatchOption, length, vec_capacity, map, slice_set};
 ghost use Rattle.std.specs.BinaryHeap.{heap_items};
+ghost use Rattle.weight_classes.specs.Ids.{ids_of};
 ghost use Rattle.weight_classes.specs.Inside.{AreEmpty, AreRoomy, IsIndexed, IsNext, IsQueue, IsBucketAdded, cell_of, idss_in, ids_at, rank_at, ranks_in};
 
-use crate::choice::{Ids, Key};
+use crate::choice::Key;
+use crate::ids::Ids;
 use apsp_model::Memory;
 use path_arena::PathId;
-use std::alloc::Global;
 use std::cmp::Reverse;
 use std::collections::BinaryHeap;
 
@@ -61,7 +62,6 @@ fn find(heads: &[u32], buckets: &[Bucket], weight: u64, hops: u32) -> Option<u32
 pub(crate) fn bucket_of(
     heads: &mut Vec<u32>,
     buckets: &mut Vec<Bucket>,
-    alloc: Global,
     weight: u64,
     hops: u32,
 ) -> Result<u32, Memory>
@@ -82,7 +82,7 @@ pub(crate) fn bucket_of(
         weight,
         hops,
         next: heads[cell],
-        ids: Ids::new(alloc),
+        ids: Ids::Empty,
     };
     buckets.push(bucket).map_err(|_| Memory)?;
     heads[cell] = len as u32;
@@ -120,16 +120,15 @@ pub(crate) fn hold(
 
 /// Puts an id behind the others of a bucket, and makes room for their keys.
 fn put(ids: &mut Ids, keys: &mut Vec<Key>, id: PathId) -> Result<(), Memory>
-    requires { length ids.old.items ≤ vec_capacity keys.old }
-    ensures ok { OnOk result (ids.new.items ≡ ids.old.items ++ id ∷ []) }
+    requires { length (ids_of ids.old) ≤ vec_capacity keys.old }
+    ensures ok { OnOk result (ids_of ids.new ≡ ids_of ids.old ++ id ∷ []) }
     ensures err { OnErr result (ids.new ≡ ids.old) }
-    ensures room { length ids.new.items ≤ vec_capacity keys.new }
+    ensures room { length (ids_of ids.new) ≤ vec_capacity keys.new }
     ensures capacity { vec_capacity keys.old ≤ vec_capacity keys.new }
 {
     keys.clear();
     keys.reserve(ids.len() + 1).map_err(|_| Memory)?;
-    ids.push(id).map_err(|_| Memory)?;
-    Ok(())
+    ids.push(*keys.allocator(), id)
 }
 
 /// The bucket of the least weight that has the fewest edges among those that hold an id.
@@ -148,14 +147,14 @@ pub(crate) fn next(queue: &mut Queue, buckets: &[Bucket]) -> Option<u32>
 }
 
 /// Takes the ids of a bucket.
-pub(crate) fn take(buckets: &mut Vec<Bucket>, alloc: Global, at: u32) -> Ids
+pub(crate) fn take(buckets: &mut Vec<Bucket>, at: u32) -> Ids
     requires { at < length buckets.old.items }
-    ensures ids { result.items ≡ ids_at (idss_in buckets.old.items) at }
+    ensures ids { ids_of result ≡ ids_at (idss_in buckets.old.items) at }
     ensures ranks { ranks_in buckets.new.items ≡ ranks_in buckets.old.items }
     ensures idss { idss_in buckets.new.items ≡ slice_set (idss_in buckets.old.items) at [] }
     ensures same { (heads : List ℕ) → IsIndexed heads buckets.old.items → IsIndexed heads buckets.new.items }
 {
-    std::mem::replace(&mut buckets[at as usize].ids, Ids::new(alloc))
+    std::mem::replace(&mut buckets[at as usize].ids, Ids::Empty)
 }
 
 /// The weight and the number of edges of a bucket.

@@ -1,17 +1,14 @@
 //! Which ids of a class win.
 
-ghost use Rattle.std.specs.Prelude.{◌≡◌, ℕ, ◌+◌, ◌*◌, ◌<◌, ◌≤◌, ◌^◌, length, vec_len, vec_capacity, Contains};
+ghost use Rattle.std.specs.Prelude.{◌≡◌, ℕ, ◌∷◌, [], ◌+◌, ◌*◌, ◌<◌, ◌≤◌, ◌^◌, length, vec_len, vec_capacity, Contains};
 ghost use Rattle.path_arena.specs.Arena.{IsLive};
 ghost use Rattle.smallvec.specs.SmallVec.{small_vec_len, HasRoomFor};
+ghost use Rattle.weight_classes.specs.Ids.{ids_of};
 ghost use Rattle.weight_classes.specs.Choice.{AreKeys, IsChosen, HasEnds, IsConsidered, key_of};
 
+use crate::ids::{Ids, List};
 use path_arena::{Arena, PathId};
-use smallvec::SmallVec;
 use std::cmp::Ordering;
-
-/// Most classes have one id, so up to four stand in the list itself. With fewer it would be no
-/// smaller: the vector of a longer list needs that room.
-pub(crate) type Ids = SmallVec<PathId, 4>;
 
 /// An id with the place of its pair, row by row.
 #[derive(Clone, Copy)]
@@ -48,7 +45,7 @@ fn make_key(arena: &Arena, n: u32, id: PathId) -> Key
     }
 }
 
-/// Puts the winners among the ids into their room, and makes their pairs won. There is room for keys.
+/// Gives the winners among the ids, in their room, and makes their pairs won. There is room for keys.
 pub(crate) fn winners(
     keys: &mut Vec<Key>,
     won: &mut Vec<bool>,
@@ -57,41 +54,42 @@ pub(crate) fn winners(
     ids: Ids,
 ) -> Ids
     requires vertices { arena.now.vertices ≡ n }
-    requires live { (q : ℕ) → Contains ids.items q → IsLive arena.now q }
-    requires room { length ids.items ≤ vec_capacity keys.old }
+    requires live { (q : ℕ) → Contains (ids_of ids) q → IsLive arena.now q }
+    requires room { length (ids_of ids) ≤ vec_capacity keys.old }
     requires pairs { vec_len won.old ≡ arena.now.vertices * arena.now.vertices }
-    ensures chosen { (last : ℕ) × IsChosen arena.now (Contains ids.items) won.old.items won.new.items result.items last }
-    ensures ends { (q : ℕ) → Contains ids.items q → HasEnds arena.now q }
+    ensures chosen { (last : ℕ) × IsChosen arena.now (Contains (ids_of ids)) won.old.items won.new.items (ids_of result) last }
+    ensures ends { (q : ℕ) → Contains (ids_of ids) q → HasEnds arena.now q }
     ensures capacity { vec_capacity keys.old ≤ vec_capacity keys.new }
 {
-    // Most classes have one id, which needs no order.
-    if ids.len() == 1 {
-        return only(won, arena, n, ids);
+    match ids {
+        Ids::Empty => Ids::Empty,
+        Ids::One(id) => only(won, arena, n, id),
+        Ids::Several(list) => {
+            fill(keys, arena, n, list.as_slice());
+            Ids::Several(choose(list, keys, won, arena))
+        }
     }
-    fill(keys, arena, n, ids.as_slice());
-    choose(ids, keys, won, arena)
 }
 
-/// The same for one id.
-fn only(won: &mut Vec<bool>, arena: &Arena, n: u32, mut ids: Ids) -> Ids
+/// The same for one id, which needs no order.
+fn only(won: &mut Vec<bool>, arena: &Arena, n: u32, id: PathId) -> Ids
     requires vertices { arena.now.vertices ≡ n }
-    requires live { (q : ℕ) → Contains ids.items q → IsLive arena.now q }
-    requires one { length ids.items ≡ 1 }
+    requires live { IsLive arena.now id }
     requires pairs { vec_len won.old ≡ arena.now.vertices * arena.now.vertices }
-    ensures chosen { (last : ℕ) × IsChosen arena.now (Contains ids.items) won.old.items won.new.items result.items last }
-    ensures ends { (q : ℕ) → Contains ids.items q → HasEnds arena.now q }
+    ensures chosen { (last : ℕ) × IsChosen arena.now (Contains (id ∷ [])) won.old.items won.new.items (ids_of result) last }
+    ensures ends { HasEnds arena.now id }
 {
-    let key = make_key(arena, n, ids[0]);
-    prove!(ids.len() <= ids.capacity());
-    ids.clear();
-    let places = won.len();
-    consider(&mut ids, won, places, arena, key);
-    ids
+    let key = make_key(arena, n, id);
+    if won[key.place] {
+        return Ids::Empty;
+    }
+    won[key.place] = true;
+    Ids::One(id)
 }
 
 /// Puts the winners among the keys into the room that the ids had: of each pair that was not won
 /// the least, by the places of the pairs. Their pairs are won.
-fn choose(mut ids: Ids, keys: &[Key], won: &mut Vec<bool>, arena: &Arena) -> Ids
+fn choose(mut ids: List, keys: &[Key], won: &mut Vec<bool>, arena: &Arena) -> List
     requires keys { AreKeys arena.now ids.items keys.now }
     requires live { (q : ℕ) → Contains ids.items q → IsLive arena.now q }
     requires pairs { vec_len won.old ≡ arena.now.vertices * arena.now.vertices }
@@ -108,7 +106,7 @@ fn choose(mut ids: Ids, keys: &[Key], won: &mut Vec<bool>, arena: &Arena) -> Ids
 }
 
 /// Takes a key into account behind those of lower places, and gives the place of the last winner.
-fn consider(winners: &mut Ids, won: &mut Vec<bool>, last: usize, arena: &Arena, key: Key) -> usize
+fn consider(winners: &mut List, won: &mut Vec<bool>, last: usize, arena: &Arena, key: Key) -> usize
     requires inside { key.place < vec_len won.old }
     requires live { IsLive arena.now key.id }
     requires all_live { (q : ℕ) → Contains winners.old.items q → IsLive arena.now q }

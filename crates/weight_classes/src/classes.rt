@@ -6,7 +6,8 @@ ghost use Rattle.weight_classes.specs.Classes.{Fits, IsHeld, IsPopped, IsPushed,
 ghost use Rattle.weight_classes.specs.declared.buckets.TheConstants.{NO_BUCKET};
 
 use crate::buckets::{Bucket, NO_BUCKET, Queue, bucket_of, hold, next, rank, take};
-use crate::choice::{Ids, Key, winners};
+use crate::choice::{Key, winners};
+use crate::ids::Ids;
 use apsp_model::Memory;
 use path_arena::{Arena, PathId};
 use std::alloc::{AllocError, Global};
@@ -23,10 +24,11 @@ pub struct Class {
 
 impl Model for Class {
     ghost use Rattle.weight_classes.specs.Classes.{Taken};
+    ghost use Rattle.weight_classes.specs.Ids.{ids_of};
 
     ghost Value = { Taken };
 
-    ghost view = { λ c. record { rank = record { weight = c.weight; hops = c.hops }; winners = c.winners.items } };
+    ghost view = { λ c. record { rank = record { weight = c.weight; hops = c.hops }; winners = ids_of c.winners } };
 }
 
 impl Class {
@@ -56,7 +58,6 @@ impl Class {
 /// the held ids with their weights and numbers of edges, and which pairs are won.
 #[derive(Drop)]
 pub struct Classes {
-    alloc: Global,
     n: u32,
     // For each cell its latest bucket.
     heads: Vec<u32>,
@@ -95,7 +96,6 @@ impl Classes {
             return Err(Memory);
         };
         Ok(Classes {
-            alloc,
             n,
             heads,
             buckets: Vec::new(alloc),
@@ -127,7 +127,7 @@ impl Classes {
         ensures fits { Fits self.new arena.now }
     {
         let (weight, hops) = (arena.weight(id), arena.hops(id));
-        let at = bucket_of(&mut self.heads, &mut self.buckets, self.alloc, weight, hops)?;
+        let at = bucket_of(&mut self.heads, &mut self.buckets, weight, hops)?;
         hold(&mut self.buckets, &mut self.queue, &mut self.keys, at, id)
     }
 
@@ -141,7 +141,7 @@ impl Classes {
     {
         let at = next(&mut self.queue, &self.buckets)?;
         let (weight, hops) = rank(&self.buckets, at);
-        let ids = take(&mut self.buckets, self.alloc, at);
+        let ids = take(&mut self.buckets, at);
         let winners = winners(&mut self.keys, &mut self.won, arena, self.n, ids);
         Some(Class {
             weight,

@@ -5,6 +5,7 @@
 mod buckets;
 mod choice;
 mod classes;
+mod ids;
 pub mod laws;
 #[cfg(test)]
 mod tests;

@@ -1,5 +1,7 @@
 use Rattle.std.proofs.Common.{◌≡◌, List, ℕ, [], ◌∷◌, length, refl, sym, subst, arith}
 use Rattle.cleanup_tasks.specs.Victims.{IsVictims}
+use Rattle.path_book.specs.Book.{kept_paths}
+use Rattle.fixup_math.proofs.Cleanups.{cleanup_leaves_ready}
 use Rattle.cleanup_tasks.proofs.Cleaning.{cleaning_none, cleaning_more, cleaning_all, last_through, last_is_free}
 use Rattle.cleanup_tasks.proofs.forget.forget_all.Goals as goal
 
@@ -21,3 +23,7 @@ nothing_left (x ∷ xs) e = absurd (omega arith)
 
 pub returns-clause-cleaned : goal.returns-clause-cleaned
 returns-clause-cleaned c = cleaning_all c.args.book.now c.longest.book c.args.list.now.vertex c.longest.rest.now c.longest.invariant (nothing_left c.longest.rest.now c.in_default.ensures.cases)
+
+pub returns-clause-ready : goal.returns-clause-ready
+returns-clause-ready c = λ before graph agree local. cleanup_leaves_ready c.args.list.now.vertex before graph agree (kept_paths c.args.book.now) (kept_paths c.longest.book) local
+    (cleaning_all c.args.book.now c.longest.book c.args.list.now.vertex c.longest.rest.now c.longest.invariant (nothing_left c.longest.rest.now c.in_default.ensures.cases))

@@ -3,10 +3,9 @@ use Rattle.std.specs.FinMap as fin
 use Rattle.apsp_model.specs.Walk.{IsOnceEach}
 use Rattle.extension_lists.specs.Known.{sides_at}
 use Rattle.path_arena.specs.Arena.{vertex_of}
-use Rattle.path_arena.proofs.Calls.{at_any_default}
 use Rattle.cleanup_tasks.specs.Victims.{IsVictims}
 use Rattle.cleanup_tasks.specs.Walk.{longer_of}
-use Rattle.cleanup_tasks.proofs.Queue.{walked_none, walked_more, walked_all, walked_most}
+use Rattle.cleanup_tasks.proofs.Queue.{at_any_default, walked_none, walked_more, walked_all, walked_most}
 use Rattle.cleanup_tasks.proofs.search.victims.Goals as goal
 
 pub walk-init : goal.walk-init

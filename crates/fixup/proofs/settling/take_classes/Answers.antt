@@ -1,21 +1,18 @@
-use Rattle.fixup.proofs.Wholes.{class_ready, class_once, class_over, class_falls}
+use Rattle.fixup.proofs.Wholes.{class_ready, class_over, class_falls}
 use Rattle.fixup.proofs.settling.take_classes.Goals as goal
 
-pub promote_all-requires-clause-ready : goal.promote_all-requires-clause-ready
-promote_all-requires-clause-ready c = class_ready c.args.birth c.args.book.now c.classes.book c.args.classes.now c.classes.classes c.classes.invariant c.requires.started c.pop_class.new.self c.arena.result.now c.arena.ensures.lent c.in-Some.class.rank c.in-Some.class.winners c.in-Some.ensures.class c.in-Some.ensures.fits c.winners.result.now c.winners.ensures
-
-pub promote_all-requires-clause-once : goal.promote_all-requires-clause-once
-promote_all-requires-clause-once c = class_once c.args.birth c.args.book.now c.classes.book c.args.classes.now c.classes.classes c.classes.invariant c.requires.started c.pop_class.new.self c.arena.result.now c.arena.ensures.lent c.in-Some.class.rank c.in-Some.class.winners c.in-Some.ensures.class c.in-Some.ensures.fits c.winners.result.now c.winners.ensures
+pub settle_class-requires-clause-ready : goal.settle_class-requires-clause-ready
+settle_class-requires-clause-ready g c κs within = class_ready c.args.birth c.args.book.now c.classes.book c.args.classes.now c.classes.classes c.classes.invariant c.requires.started c.pop_class.new.self c.arena.result.now c.arena.ensures.lent c.in-Some.class.rank c.in-Some.class.winners c.in-Some.ensures.class c.in-Some.ensures.fits c.winners.result.now c.winners.ensures
 
 -- the winners that the class drops stand in it or in memory of their own
 pub classes-smaller : goal.classes-smaller
-classes-smaller c = class_falls c.args.birth c.args.book.now c.classes.book c.args.classes.now c.classes.classes c.classes.invariant c.requires.started c.pop_class.new.self c.arena.result.now c.arena.ensures.lent c.in-Some.class.rank c.in-Some.class.winners c.in-Some.ensures.class c.in-Some.ensures.fits c.winners.result.now c.winners.ensures c.promote_all.new.book c.promote_all.new.classes c.in_ok-promote_all.ensures.done
+classes-smaller g c = class_falls c.args.birth c.args.book.now c.classes.book c.args.classes.now c.classes.classes c.classes.invariant c.requires.started c.pop_class.new.self c.arena.result.now c.arena.ensures.lent c.in-Some.class.rank c.in-Some.class.winners c.in-Some.ensures.class c.in-Some.ensures.fits c.winners.result.now c.winners.ensures c.settle_class.new.book c.settle_class.new.classes c.in_ok-settle_class.ensures.done
 
 pub classes-preserved : goal.classes-preserved
-classes-preserved c = class_over c.args.birth c.args.book.now c.classes.book c.args.classes.now c.classes.classes c.classes.invariant c.requires.started c.pop_class.new.self c.arena.result.now c.arena.ensures.lent c.in-Some.class.rank c.in-Some.class.winners c.in-Some.ensures.class c.in-Some.ensures.fits c.winners.result.now c.winners.ensures c.promote_all.new.book c.promote_all.new.classes c.in_ok-promote_all.ensures.done
+classes-preserved g c = class_over c.args.birth c.args.book.now c.classes.book c.args.classes.now c.classes.classes c.classes.invariant c.requires.started c.pop_class.new.self c.arena.result.now c.arena.ensures.lent c.in-Some.class.rank c.in-Some.class.winners c.in-Some.ensures.class c.in-Some.ensures.fits c.winners.result.now c.winners.ensures c.settle_class.new.book c.settle_class.new.classes c.in_ok-settle_class.ensures.done
 
-pub classes-smaller-in_ok-promote_all : goal.classes-smaller-in_ok-promote_all
-classes-smaller-in_ok-promote_all c = class_falls c.args.birth c.args.book.now c.classes.book c.args.classes.now c.classes.classes c.classes.invariant c.requires.started c.pop_class.new.self c.arena.result.now c.arena.ensures.lent c.in-Some.class.rank c.in-Some.class.winners c.in-Some.ensures.class c.in-Some.ensures.fits c.winners.result.now c.winners.ensures c.promote_all.new.book c.promote_all.new.classes c.in_ok-promote_all.ensures.done
+pub classes-smaller-in_ok-settle_class : goal.classes-smaller-in_ok-settle_class
+classes-smaller-in_ok-settle_class g c = class_falls c.args.birth c.args.book.now c.classes.book c.args.classes.now c.classes.classes c.classes.invariant c.requires.started c.pop_class.new.self c.arena.result.now c.arena.ensures.lent c.in-Some.class.rank c.in-Some.class.winners c.in-Some.ensures.class c.in-Some.ensures.fits c.winners.result.now c.winners.ensures c.settle_class.new.book c.settle_class.new.classes c.in_ok-settle_class.ensures.done
 
-pub classes-preserved-in_ok-promote_all : goal.classes-preserved-in_ok-promote_all
-classes-preserved-in_ok-promote_all c = class_over c.args.birth c.args.book.now c.classes.book c.args.classes.now c.classes.classes c.classes.invariant c.requires.started c.pop_class.new.self c.arena.result.now c.arena.ensures.lent c.in-Some.class.rank c.in-Some.class.winners c.in-Some.ensures.class c.in-Some.ensures.fits c.winners.result.now c.winners.ensures c.promote_all.new.book c.promote_all.new.classes c.in_ok-promote_all.ensures.done
+pub classes-preserved-in_ok-settle_class : goal.classes-preserved-in_ok-settle_class
+classes-preserved-in_ok-settle_class g c = class_over c.args.birth c.args.book.now c.classes.book c.args.classes.now c.classes.classes c.classes.invariant c.requires.started c.pop_class.new.self c.arena.result.now c.arena.ensures.lent c.in-Some.class.rank c.in-Some.class.winners c.in-Some.ensures.class c.in-Some.ensures.fits c.winners.result.now c.winners.ensures c.settle_class.new.book c.settle_class.new.classes c.in_ok-settle_class.ensures.done

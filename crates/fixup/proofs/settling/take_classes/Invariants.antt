@@ -4,7 +4,7 @@ use Rattle.fixup.proofs.Lightest.{left_over}
 use Rattle.fixup.proofs.settling.take_classes.Given as goal
 
 abbrev pub invariant-classes : goal.invariant-classes
-invariant-classes l = (s : Start) → IsAt s.graph l.birth s.opening l.initial.book l.initial.classes → IsAt s.graph l.birth s.opening l.book l.classes
+invariant-classes g l = (s : Start) → IsAt s.graph l.birth s.opening l.initial.book l.initial.classes → IsAt s.graph l.birth s.opening l.book l.classes
 
 abbrev pub decreases-classes : goal.decreases-classes
-decreases-classes l = left_over l.classes.held
+decreases-classes g l = left_over l.classes.held

@@ -4,6 +4,7 @@ use Rattle.weight_classes.specs.Inside.{Turn, IsQueue}
 use Rattle.weight_classes.proofs.Held.{ranks_same, ids_is}
 use Rattle.weight_classes.proofs.Holding.{ok_then, indexed_same, queue_pushed, queue_kept, roomy_set, idss_pushed}
 use Rattle.weight_classes.proofs.buckets.hold.Goals as goal
+use Rattle.weight_classes.specs.Ids.{ids_of}
 
 some_by : (ids : List ℕ) (r : Bool) → r ≡ (length ids == 0) → r ≡ false → 0 < length ids
 some_by ids r e f = grind arith
@@ -63,7 +64,7 @@ pub returns-else-not-waits-clause-queue : goal.returns-else-not-waits-clause-que
 returns-else-not-waits-clause-queue c =
     let b : Bucket = c.index_mut-bucket.result.now in
     let d : Bucket = record { weight = b.weight; hops = b.hops; next = b.next; ids = c.put.new.ids } in
-    queue_kept c.args.buckets.now.items c.args.at b d c.requires.inside c.index_mut-bucket.ensures.value refl (heap_items c.reserve.new.self) (subst (λ (ts : List Turn). IsQueue ts c.args.buckets.now.items) (sym c.reserve.ensures.items) c.requires.queue) (some_by b.ids.items c.is_empty-waits.result c.is_empty-waits.ensures c.if-not-waits.false)
+    queue_kept c.args.buckets.now.items c.args.at b d c.requires.inside c.index_mut-bucket.ensures.value refl (heap_items c.reserve.new.self) (subst (λ (ts : List Turn). IsQueue ts c.args.buckets.now.items) (sym c.reserve.ensures.items) c.requires.queue) (some_by (ids_of b.ids) c.is_empty-waits.result c.is_empty-waits.ensures c.if-not-waits.false)
 
 pub returns-then-not-waits-clause-queue : goal.returns-then-not-waits-clause-queue
 returns-then-not-waits-clause-queue c =

@@ -1,6 +1,6 @@
-use Rattle.std.proofs.Common.{◌∙◌, ap, refl, ℕ, slice_set}
-use Rattle.smallvec.specs.SmallVec.{SmallVec}
+use Rattle.std.proofs.Common.{◌∙◌, ap, refl, slice_set}
 use Rattle.weight_classes.specs.declared.buckets.Bucket.{Bucket}
+use Rattle.weight_classes.specs.Ids.{ids_of}
 use Rattle.weight_classes.specs.Inside.{idss_in}
 use Rattle.weight_classes.proofs.Held.{ranks_same, idss_now}
 use Rattle.weight_classes.proofs.Holding.{indexed_same}
@@ -22,4 +22,4 @@ pub returns-clause-idss : goal.returns-clause-idss
 returns-clause-idss c =
     let b : Bucket = c.index_mut.result.now in
     let d : Bucket = record { weight = b.weight; hops = b.hops; next = b.next; ids = c.replace.new.dest } in
-    idss_now c.args.buckets.now.items c.args.at b d c.requires c.index_mut.ensures.value ∙ ap (slice_set (idss_in c.args.buckets.now.items) c.args.at) (ap (λ (v : SmallVec ℕ). v.items) c.replace.ensures.after ∙ c.new.ensures.items)
+    idss_now c.args.buckets.now.items c.args.at b d c.requires c.index_mut.ensures.value ∙ ap (slice_set (idss_in c.args.buckets.now.items) c.args.at) (ap ids_of c.replace.ensures.after)

@@ -1,0 +1,6 @@
+use Rattle.std.proofs.Common.{[], take}
+use Rattle.fixup.specs.Stages.{Stage, IsJoiningAt, AreOwedAt}
+use Rattle.fixup.proofs.class.keep_joins.Given as goal
+
+abbrev pub invariant-joins : goal.invariant-joins
+invariant-joins l = (s : Stage) → IsJoiningAt s l.birth [] l.initial.book l.initial.classes → AreOwedAt s l.joins → IsJoiningAt s l.birth (take l.pair-index l.joins) l.book l.classes

@@ -1,0 +1,101 @@
+//! A class: its winners are promoted, then the joins that they owe are listed, and then kept.
+
+ghost use Rattle.std.specs.Prelude.{◌≡◌, ℕ, OnOk, OnErr, Contains, []};
+ghost use Rattle.apsp_model.specs.Walk.{IsOnceEach, first, last};
+ghost use Rattle.path_arena.specs.Arena.{list_of, IsLive, CanJoin, joined_path};
+ghost use Rattle.path_book.specs.Book.{IsBook, IsMarked, IsNewList};
+ghost use Rattle.weight_classes.specs.Classes.{Fits};
+ghost use Rattle.fixup.specs.Joining.{IsJoined};
+ghost use Rattle.fixup.specs.Owing.{IsPromoted};
+ghost use Rattle.fixup.specs.Stages.{Stage, IsTakenAt, IsDoneAt, IsJoiningAt, AreOwedAt, IsClassReady, AreJoinsReady};
+
+use crate::listing::{Join, list_joins};
+use apsp_io::Gate;
+use apsp_model::Memory;
+use path_arena::PathId;
+use path_book::Book;
+use weight_classes::Classes;
+
+/// Settles a class that was taken: makes its winners historical, and keeps the joins that they owe.
+/// `joins` is room that is used again.
+pub(crate) fn settle_class<G: Gate>(
+    book: &mut Book,
+    classes: &mut Classes,
+    joins: &mut Vec<Join>,
+    winners: &[PathId],
+    birth: u64,
+    gate: &G,
+) -> Result<(), Memory>
+    requires ready { IsClassReady birth winners.now book.old classes.old }
+    ensures done { OnOk result ((s : Stage) → IsTakenAt s birth winners.now book.old classes.old → IsDoneAt s birth book.new classes.new) }
+    ensures lawful { OnErr result (IsBook book.new) }
+{
+    promote_all(book, winners)?;
+    list_joins(book, winners, joins, gate)?;
+    keep_joins(book, classes, joins, birth)
+}
+
+/// Makes the winners historical.
+fn promote_all(book: &mut Book, winners: &[PathId]) -> Result<(), Memory>
+    requires lawful { IsBook book.old }
+    requires live { (w : ℕ) → Contains winners.now w → IsLive book.old.arena w }
+    requires pending { (w : ℕ) → Contains winners.now w → IsMarked book.old w → ⊥ }
+    requires once { IsOnceEach winners.now }
+    ensures promoted { OnOk result (IsPromoted book.old winners.now book.new) }
+    ensures lawful { OnErr result (IsBook book.new) }
+{
+    'winners: for &winner in winners {
+        book.promote(winner)?;
+    }
+    Ok(())
+}
+
+/// Keeps the listed joins.
+fn keep_joins(
+    book: &mut Book,
+    classes: &mut Classes,
+    joins: &[Join],
+    birth: u64,
+) -> Result<(), Memory>
+    requires ready { AreJoinsReady birth joins.now book.old classes.old }
+    requires once { IsOnceEach joins.now }
+    ensures done { OnOk result ((s : Stage) → IsJoiningAt s birth [] book.old classes.old → AreOwedAt s joins.now → IsJoiningAt s birth joins.now book.new classes.new) }
+    ensures lawful { OnErr result (IsBook book.new) }
+{
+    'joins: for &pair in joins {
+        join(book, classes, pair.left, pair.right, birth)?;
+    }
+    Ok(())
+}
+
+/// Keeps the join of two historical paths, unless its first vertex would be its last, and holds it
+/// where it is the least of its pair.
+fn join(
+    book: &mut Book,
+    classes: &mut Classes,
+    l: PathId,
+    r: PathId,
+    birth: u64,
+) -> Result<(), Memory>
+    requires left_live { IsLive book.old.arena l }
+    requires right_live { IsLive book.old.arena r }
+    requires left { IsMarked book.old l }
+    requires right { IsMarked book.old r }
+    requires can { (first (list_of book.old.arena l) ≡ last (list_of book.old.arena r) → ⊥) → CanJoin book.old.arena l r }
+    requires new { (first (list_of book.old.arena l) ≡ last (list_of book.old.arena r) → ⊥) → IsNewList book.old (joined_path book.old.arena l r birth).list }
+    requires fits { Fits classes.old book.old.arena }
+    ensures joined { OnOk result (IsJoined book.old classes.old l r birth book.new classes.new) }
+    ensures lawful { IsBook book.new }
+    ensures fits { OnOk result (Fits classes.new book.new.arena) }
+{
+    let arena = book.arena();
+    let (from, to) = (arena.first(l), arena.last(r));
+    if from == to {
+        return Ok(());
+    }
+    let id = book.form_join(l, r, birth)?;
+    if book.least(from, to) == Some(id) {
+        classes.push(book.arena(), id)?;
+    }
+    Ok(())
+}

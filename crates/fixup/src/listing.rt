@@ -1,0 +1,152 @@
+//! The joins that a class owes once its winners are promoted.
+
+ghost use Rattle.std.specs.Prelude.{◌≡◌, ℕ, ◌↔◌, IsTrue, OnOk, Contains};
+ghost use Rattle.apsp_model.specs.Walk.{IsOnceEach};
+ghost use Rattle.path_arena.specs.Arena.{IsLive};
+ghost use Rattle.weight_classes.specs.Classes.{InOrder, pair_cmp};
+ghost use Rattle.fixup.specs.Owing.{ArePromoted, AreOwed, AreAdded, Lists, ListsFrom, Yields, join_at};
+
+use apsp_io::{Gate, TASK};
+use apsp_model::Memory;
+use path_arena::{Arena, PathId};
+use path_book::Book;
+use std::cmp::Ordering;
+
+/// Two paths, of which the left one without its first vertex is the right one without its last.
+#[derive(Clone, Copy)]
+pub(crate) struct Join {
+    pub(crate) left: PathId,
+    pub(crate) right: PathId,
+}
+
+/// Where the partners of a winner stand.
+#[derive(Clone, Copy)]
+pub(crate) enum Side {
+    Left,
+    Right,
+}
+
+impl Side {
+    /// The join of a winner with a partner on this side.
+    fn join(self, winner: PathId, partner: PathId) -> Join
+        ensures { result ≡ join_at self winner partner }
+    {
+        match self {
+            Side::Left => Join {
+                left: partner,
+                right: winner,
+            },
+            Side::Right => Join {
+                left: winner,
+                right: partner,
+            },
+        }
+    }
+}
+
+/// Lists the joins that the promoted winners of a class owe, each once: of two historical paths, of
+/// which one is a winner or both are. Each is listed by one winner, for which the gate is passed.
+pub(crate) fn list_joins<G: Gate>(
+    book: &Book,
+    winners: &[PathId],
+    joins: &mut Vec<Join>,
+    gate: &G,
+) -> Result<(), Memory>
+    requires promoted { ArePromoted book.now winners.now }
+    ensures owed { OnOk result (AreOwed book.now winners.now joins.new.items) }
+{
+    joins.clear();
+    'winners: for &winner in winners {
+        gate.pass(0, TASK);
+        list_winner(book, winners, winner, joins)?;
+    }
+    Ok(())
+}
+
+/// Lists the joins of a winner with the partners that were historical before the class, and with
+/// the winners below it.
+fn list_winner(
+    book: &Book,
+    winners: &[PathId],
+    winner: PathId,
+    joins: &mut Vec<Join>,
+) -> Result<(), Memory>
+    requires promoted { ArePromoted book.now winners.now }
+    requires one { Contains winners.now winner }
+    ensures listed { OnOk result (AreAdded (Lists book.now winners.now winner) joins.old.items joins.new.items) }
+{
+    let (arena, lists) = (book.arena(), book.lists());
+    let (left, right) = (arena.left_part(winner), arena.right_part(winner));
+    let (in_front, behind) = (lists.left_star(left), lists.right_star(right));
+    list_side(arena, winners, winner, in_front, Side::Left, joins)?;
+    list_side(arena, winners, winner, behind, Side::Right, joins)
+}
+
+/// Lists the joins of a winner with the partners on one side.
+fn list_side(
+    arena: &Arena,
+    winners: &[PathId],
+    winner: PathId,
+    partners: &[PathId],
+    side: Side,
+    joins: &mut Vec<Join>,
+) -> Result<(), Memory>
+    requires order { InOrder arena.now winners.now }
+    requires live { (w : ℕ) → Contains winners.now w → IsLive arena.now w }
+    requires one { IsLive arena.now winner }
+    requires all { (q : ℕ) → Contains partners.now q → IsLive arena.now q }
+    requires once { IsOnceEach partners.now }
+    ensures listed { OnOk result (AreAdded (ListsFrom arena.now winners.now winner side partners.now) joins.old.items joins.new.items) }
+{
+    'partners: for &partner in partners {
+        if lists(arena, winners, winner, partner) {
+            let Ok(()) = joins.push(side.join(winner, partner)) else {
+                return Err(Memory);
+            };
+        }
+    }
+    Ok(())
+}
+
+/// Whether a winner lists its join with a partner: where that is no winner, or one below it.
+fn lists(arena: &Arena, winners: &[PathId], winner: PathId, partner: PathId) -> bool
+    requires order { InOrder arena.now winners.now }
+    requires live { (w : ℕ) → Contains winners.now w → IsLive arena.now w }
+    requires one { IsLive arena.now winner }
+    requires other { IsLive arena.now partner }
+    ensures { IsTrue result ↔ Yields arena.now winners.now winner partner }
+{
+    !is_winner(arena, winners, partner) || arena.compare(partner, winner).is_lt()
+}
+
+/// Whether an id is among the winners, which stand in the order of their pairs.
+fn is_winner(arena: &Arena, winners: &[PathId], id: PathId) -> bool
+    requires order { InOrder arena.now winners.now }
+    requires live { (w : ℕ) → Contains winners.now w → IsLive arena.now w }
+    requires one { IsLive arena.now id }
+    ensures { IsTrue result ↔ Contains winners.now id }
+{
+    let (mut low, mut high) = (0, winners.len());
+    'search: while low < high {
+        let middle = low + (high - low) / 2;
+        let found = winners[middle];
+        match compare_pairs(arena, found, id) {
+            Ordering::Less => low = middle + 1,
+            Ordering::Equal => return found == id,
+            Ordering::Greater => high = middle,
+        }
+    }
+    false
+}
+
+/// The order of the pairs of two live paths, by first and then by last vertex.
+fn compare_pairs(arena: &Arena, a: PathId, b: PathId) -> Ordering
+    requires first { IsLive arena.now a }
+    requires second { IsLive arena.now b }
+    ensures { result ≡ pair_cmp arena.now a b }
+{
+    arena
+        .first(a)
+        .cmp(&arena.first(b))
+        .then(arena.last(a).cmp(&arena.last(b)))
+}

@@ -1,0 +1,67 @@
+//! The engine as that from which a version is filled.
+
+ghost use Rattle.std.specs.Prelude.{◌≡◌, Some, length, false};
+ghost use Rattle.apsp_model.specs.Walk.{first};
+ghost use Rattle.path_arena.specs.Arena.{list_of};
+ghost use Rattle.version_face.specs.Entries.{second_of};
+
+use crate::{Engine, Least};
+use version_face::{Answers, Entry, Version};
+
+impl Answers for Engine {
+    ghost use Rattle.std.specs.Prelude.{◌≡◌, ℕ, length, false};
+
+    ghost graph = { λ e. e.graph };
+
+    ghost stamp = { λ e. length e.vertices };
+
+    ghost ready = { λ e. e.spent ≡ false };
+
+    fn vertices(&self) -> u32 {
+        self.graph().vertices()
+    }
+
+    fn number(&self) -> u64 {
+        Engine::number(self)
+    }
+
+    fn weight(&self, u: u32, v: u32) -> Option<u32> {
+        self.graph().weight(u, v)
+    }
+
+    fn entry(&self, x: u32, y: u32) -> Option<Entry> {
+        // The graph has as many vertices as the engine.
+        let _graph = self.graph();
+        let least = self.least(x, y)?;
+        Some(Entry {
+            dist: least.weight(),
+            hops: least.hops(),
+            next: second(&least, x),
+        })
+    }
+}
+
+impl Engine {
+    /// Makes the version that of the present graph and number. It takes no memory, and O(n²) looks.
+    pub fn fill(&self, version: &mut Version)
+        requires not_spent { self.now.spent ≡ false }
+        requires same { version.old.graph.vertices ≡ self.now.graph.vertices }
+        ensures graph { version.new.graph ≡ self.now.graph }
+        ensures number { version.new.number ≡ length self.now.vertices }
+    {
+        version.refill(self);
+    }
+}
+
+/// The second vertex of a least path from x, or x where it has no other.
+fn second(least: &Least<'_>, x: u32) -> u32
+    requires { first (list_of least.now.book.arena least.now.id) ≡ Some x }
+    ensures { result ≡ second_of (list_of least.now.book.arena least.now.id) }
+{
+    let mut vertices = least.vertices();
+    vertices.next();
+    match vertices.next() {
+        Some(vertex) => vertex,
+        None => x,
+    }
+}

@@ -1,0 +1,5 @@
+pub mod Totals
+pub mod Steps
+pub mod Listing
+pub mod Filling
+pub mod Places
