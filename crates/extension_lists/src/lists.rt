@@ -1,13 +1,14 @@
 //! The lists of all ids, by key.
 
-ghost use Rattle.std.specs.Prelude.{◌≡◌, ℕ, ◌<◌, ◌^◌, [], ◌∷◌, ◌++◌, OnOk, OnErr, Some, Contains, IsNone, vec_len};
+ghost use Rattle.std.specs.Prelude.{◌≡◌, ◌≢◌, ℕ, ◌<◌, ◌≤◌, ◌+◌, ◌*◌, ◌^◌, [], ◌∷◌, ◌++◌, OnOk, OnErr, Contains, IsNone, length, vec_len};
 ghost use Rattle.std.specs.FinMap as map;
 ghost use Rattle.apsp_model.specs.Walk.{IsOnceEach};
-ghost use Rattle.extension_lists.specs.Known.{IsKnown, IsDropped, StandsOnlyAt, added, change, no_sides, sides_at, starred};
-ghost use Rattle.extension_lists.specs.Slots.{IsTakenAt, known_in, list_on, put_on, without_last_on};
+ghost use Rattle.extension_lists.specs.Known.{IsKnown, IsDropped, IsStarred, StandsOnlyAt, added, change, no_sides, sides_at};
+ghost use Rattle.extension_lists.specs.Slots.{IsSides, known_by};
 
-use crate::slot::{Side, Slot};
+use crate::side::{star, take_back, take_out};
 use apsp_model::Memory;
+use id_pool::Lists as Pool;
 use path_arena::PathId;
 use std::alloc::Global;
 use std::marker::Model;
@@ -16,11 +17,12 @@ use std::marker::Model;
 /// and the right extensions, and the historical ones of them. Contracts see it as a finite map from
 /// the keys of the known ids to their lists.
 ///
-/// The room of a forgotten id serves the next id of its key.
+/// A key has two lists of one pool side by side, the left one first. The historical ids of a list
+/// stand in front of it, marked. The lists of a key that no known id has are empty.
 #[derive(Drop)]
 pub struct Lists {
-    alloc: Global,
-    slots: Vec<Slot>,
+    known: Vec<bool>,
+    pool: Pool,
 }
 
 impl Model for Lists {
@@ -30,9 +32,11 @@ impl Model for Lists {
 
     ghost coded = { known_code };
 
-    ghost use Rattle.extension_lists.specs.Slots.{known_in};
+    ghost use Rattle.extension_lists.specs.Layout.{view_of, IsSound};
 
-    ghost view = { λ l. known_in l.slots.items };
+    ghost view = { view_of };
+
+    ghost invariant = { IsSound };
 }
 
 impl Lists {
@@ -41,8 +45,8 @@ impl Lists {
         ensures { result ≡ map.empty }
     {
         Lists {
-            alloc,
-            slots: Vec::new(alloc),
+            known: Vec::new(alloc),
+            pool: Pool::new(alloc),
         }
     }
 
@@ -53,13 +57,13 @@ impl Lists {
         ensures err { OnErr result (self.new ≡ self.old) }
     {
         let key = id.key();
-        make_room(&mut self.slots, self.alloc, key)?;
-        let slot = &mut self.slots[key];
-        slot.enter();
+        make_room(&mut self.known, &mut self.pool, key)?;
+        self.known[key] = true;
         Ok(())
     }
 
-    /// Puts an id behind the right extensions of l and the left extensions of r.
+    /// Puts an id behind the right extensions of l and the left extensions of r. Where a list is full
+    /// its ids move into a block of twice the room.
     pub fn add(&mut self, id: PathId, l: PathId, r: PathId) -> Result<(), Memory>
         requires known { IsKnown self.old id }
         requires known_l { IsKnown self.old l }
@@ -69,16 +73,20 @@ impl Lists {
         ensures ok { OnOk result (self.new ≡ added self.old id l r) }
         ensures err { OnErr result (self.new ≡ self.old) }
     {
-        put_both(
-            &mut self.slots,
-            id,
-            (l.key(), Side::Right),
-            (r.key(), Side::Left),
-        )
+        let right = 2 * l.key() + 1;
+        let left = 2 * r.key();
+        self.pool.put(right, id)?;
+        match self.pool.put(left, id) {
+            Ok(()) => Ok(()),
+            Err(memory) => {
+                take_back(&mut self.pool, right);
+                Err(memory)
+            }
+        }
     }
 
     /// Puts an id behind the historical right extensions of l and the historical left extensions
-    /// of r, where it is an extension of both.
+    /// of r, where it is an extension of both: in time of the lists' lengths, and without memory.
     pub fn add_star(&mut self, id: PathId, l: PathId, r: PathId) -> Result<(), Memory>
         requires known_l { IsKnown self.old l }
         requires known_r { IsKnown self.old r }
@@ -86,15 +94,12 @@ impl Lists {
         requires left { Contains (sides_at self.old r).left id }
         requires new_right { Contains (sides_at self.old l).right_star id → ⊥ }
         requires new_left { Contains (sides_at self.old r).left_star id → ⊥ }
-        ensures ok { OnOk result (self.new ≡ starred self.old id l r) }
+        ensures ok { OnOk result (IsStarred self.old self.new id l r) }
         ensures err { OnErr result (self.new ≡ self.old) }
     {
-        put_both(
-            &mut self.slots,
-            id,
-            (l.key(), Side::RightStar),
-            (r.key(), Side::LeftStar),
-        )
+        star(&mut self.pool, 2 * l.key() + 1, id);
+        star(&mut self.pool, 2 * r.key(), id);
+        Ok(())
     }
 
     /// Takes an id out of the lists of l and r, in time of their lengths, and forgets it.
@@ -106,7 +111,9 @@ impl Lists {
         requires nowhere_else { StandsOnlyAt self.old id l r }
         ensures { IsDropped self.old self.new id l r }
     {
-        drop_from(&mut self.slots, id, l.key(), r.key());
+        take_out(&mut self.pool, 2 * l.key() + 1, id);
+        take_out(&mut self.pool, 2 * r.key(), id);
+        self.known[id.key()] = false;
     }
 
     /// The left extensions of a known id.
@@ -115,7 +122,7 @@ impl Lists {
         ensures lent { result.now ≡ (sides_at self.now id).left }
         ensures once { IsOnceEach result.now }
     {
-        self.slot(id).left()
+        self.pool.ids(2 * id.key())
     }
 
     /// The right extensions of a known id.
@@ -124,7 +131,7 @@ impl Lists {
         ensures lent { result.now ≡ (sides_at self.now id).right }
         ensures once { IsOnceEach result.now }
     {
-        self.slot(id).right()
+        self.pool.ids(2 * id.key() + 1)
     }
 
     /// The historical left extensions of a known id.
@@ -133,7 +140,7 @@ impl Lists {
         ensures lent { result.now ≡ (sides_at self.now id).left_star }
         ensures once { IsOnceEach result.now }
     {
-        self.slot(id).left_star()
+        self.pool.marked_ids(2 * id.key())
     }
 
     /// The historical right extensions of a known id.
@@ -142,96 +149,23 @@ impl Lists {
         ensures lent { result.now ≡ (sides_at self.now id).right_star }
         ensures once { IsOnceEach result.now }
     {
-        self.slot(id).right_star()
-    }
-
-    fn slot(&self, id: PathId) -> &Slot
-        requires { IsKnown self.now id }
-        ensures { result.now ≡ Some (sides_at self.now id) }
-    {
-        &self.slots[id.key()]
+        self.pool.marked_ids(2 * id.key() + 1)
     }
 }
 
-/// Makes a slot for a key.
-fn make_room(slots: &mut Vec<Slot>, alloc: Global, key: usize) -> Result<(), Memory>
-    requires { key < 2 ^ 32 }
-    ensures same { known_in slots.new.items ≡ known_in slots.old.items }
-    ensures ok { OnOk result (key < vec_len slots.new) }
+/// Makes lists for a key, which nobody knows.
+fn make_room(known: &mut Vec<bool>, pool: &mut Pool, key: usize) -> Result<(), Memory>
+    requires sound { IsSides known.old.items pool.old }
+    requires small { key < 2 ^ 32 }
+    ensures sound { IsSides known.new.items pool.new }
+    ensures same { known_by known.new.items pool.new ≡ known_by known.old.items pool.old }
+    ensures ok { OnOk result (key < vec_len known.new) }
 {
-    'room: while slots.len() <= key {
-        slots.push(Slot::unknown(alloc)).map_err(|_| Memory)?;
+    'lists: while pool.count() < 2 * key + 2 {
+        pool.add()?;
+    }
+    'flags: while known.len() <= key {
+        known.push(false).map_err(|_| Memory)?;
     }
     Ok(())
-}
-
-/// Puts an id behind two different lists of known keys, or behind none.
-fn put_both(
-    slots: &mut Vec<Slot>,
-    id: PathId,
-    one: (usize, Side),
-    other: (usize, Side),
-) -> Result<(), Memory>
-    requires one_known { IsKnown (known_in slots.old.items) one.0 }
-    requires other_known { IsKnown (known_in slots.old.items) other.0 }
-    requires one_absent { Contains (list_on one.1 (sides_at (known_in slots.old.items) one.0)) id → ⊥ }
-    requires other_absent { Contains (list_on other.1 (sides_at (known_in slots.old.items) other.0)) id → ⊥ }
-    requires apart { one.1 ≡ other.1 → ⊥ }
-    ensures ok { OnOk result (known_in slots.new.items ≡ change (change (known_in slots.old.items) one.0 (put_on one.1 id)) other.0 (put_on other.1 id)) }
-    ensures err { OnErr result (known_in slots.new.items ≡ known_in slots.old.items) }
-{
-    put(slots, one.0, one.1, id)?;
-    match put(slots, other.0, other.1, id) {
-        Ok(()) => Ok(()),
-        Err(memory) => {
-            take_back(slots, one.0, one.1);
-            Err(memory)
-        }
-    }
-}
-
-/// Puts an id behind a list of a known key.
-fn put(slots: &mut Vec<Slot>, key: usize, side: Side, id: PathId) -> Result<(), Memory>
-    requires known { IsKnown (known_in slots.old.items) key }
-    requires absent { Contains (list_on side (sides_at (known_in slots.old.items) key)) id → ⊥ }
-    ensures ok { OnOk result (known_in slots.new.items ≡ change (known_in slots.old.items) key (put_on side id)) }
-    ensures err { OnErr result (known_in slots.new.items ≡ known_in slots.old.items) }
-{
-    let slot = &mut slots[key];
-    slot.push(side, id)
-}
-
-/// Takes the last entry out of a list of a known key.
-fn take_back(slots: &mut Vec<Slot>, key: usize, side: Side)
-    requires { IsKnown (known_in slots.old.items) key }
-    ensures { known_in slots.new.items ≡ change (known_in slots.old.items) key (without_last_on side) }
-{
-    let slot = &mut slots[key];
-    slot.pop(side);
-}
-
-/// Takes an id out of a list of a known key, if it stands there.
-fn take_out(slots: &mut Vec<Slot>, key: usize, side: Side, id: PathId)
-    requires { IsKnown (known_in slots.old.items) key }
-    ensures taken { IsTakenAt side id (known_in slots.old.items) (known_in slots.new.items) key }
-    ensures still_known { (q : ℕ) → IsKnown (known_in slots.old.items) q → IsKnown (known_in slots.new.items) q }
-{
-    let slot = &mut slots[key];
-    slot.take(side, id);
-}
-
-/// Takes an id out of the right lists of one known key and the left lists of another, and forgets it.
-fn drop_from(slots: &mut Vec<Slot>, id: PathId, l: usize, r: usize)
-    requires known { IsKnown (known_in slots.old.items) id }
-    requires known_l { IsKnown (known_in slots.old.items) l }
-    requires known_r { IsKnown (known_in slots.old.items) r }
-    requires empty { sides_at (known_in slots.old.items) id ≡ no_sides }
-    ensures { IsDropped (known_in slots.old.items) (known_in slots.new.items) id l r }
-{
-    take_out(slots, l, Side::Right, id);
-    take_out(slots, l, Side::RightStar, id);
-    take_out(slots, r, Side::Left, id);
-    take_out(slots, r, Side::LeftStar, id);
-    let slot = &mut slots[id.key()];
-    slot.forget();
 }

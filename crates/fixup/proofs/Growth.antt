@@ -8,7 +8,7 @@ use Rattle.apsp_model.specs.Paths.{IsKeptIn, HasBirthIn}
 use Rattle.apsp_model.specs.Settled.{HaveWeights}
 use Rattle.path_arena.specs.Arena.{Arena, Path, path_at, path_of, list_of, IsLive}
 use Rattle.path_arena.proofs.Paths.{live_path, live_from, path_of_at}
-use Rattle.path_book.specs.Book.{Book, IsBook, with_kept, with_mark, kept_paths}
+use Rattle.path_book.specs.Book.{Book, IsBook, with_kept, kept_paths}
 use Rattle.path_book.proofs.Kept.{kept_live, birth_live, kept_at}
 use Rattle.fixup.proofs.Views.{path_new, path_other, path_still}
 use Rattle.fixup.specs.Growth.{IsGrown}
@@ -52,9 +52,6 @@ grown_with g birth b0 b s id q fresh weight born lawful = record {
     | inr apart ↦ s.new k p (sym (path_other b id q fresh k apart) ∙ e)
   ];
 }
-
-pub grown_mark : (g : Graph) (birth : ℕ) (b0 b : Book) → IsGrown g birth b0 b → (id : ℕ) → IsBook (with_mark b id) → IsGrown g birth b0 (with_mark b id)
-grown_mark g birth b0 b s id lawful = record { lawful = lawful; vertices = s.vertices; weights = s.weights; old = s.old; new = s.new }
 
 -- by ids
 pub id_weight : (g : Graph) (birth : ℕ) (b0 b : Book) → IsGrown g birth b0 b → (id : ℕ) → IsLive b.arena id → (path_of b.arena id).weight ≡ weight_of g (list_of b.arena id)

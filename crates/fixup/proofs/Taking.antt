@@ -31,7 +31,7 @@ module _ (b0 b : Book) (winners : List ℕ) (i w : ℕ) (inside : i < length win
   pub promote_pending : ((v : ℕ) → Contains winners v → IsMarked b0 v → ⊥) → IsOnceEach winners → IsMarked b w → ⊥
   promote_pending pending once m = elim ((p.marks w).0 m) [ inl old ↦ pending w (i, inside, sym at) old | inr earlier ↦ once_before winners i w once inside at earlier ]
 
-  pub promoted_more : (after : Book) → after ≡ with_mark b w → IsBook after → IsPromoted b0 (take (i + 1) winners) after
+  pub promoted_more : (after : Book) → after ≡ with_mark b w after.lists → IsBook after → IsPromoted b0 (take (i + 1) winners) after
   promoted_more after is lawful = record {
     lawful = lawful;
     arena = ap (λ (d : Book). d.arena) is ∙ p.arena;
@@ -44,7 +44,7 @@ module _ (b0 b : Book) (winners : List ℕ) (i w : ℕ) (inside : i < length win
         | inl before ↦ mark_still b w id ((p.marks id).1 (inl before))
         | inr c ↦ elim (take_cases winners i w inside at id c) [
           | inl earlier ↦ mark_still b w id ((p.marks id).1 (inr earlier))
-          | inr same ↦ subst (IsMarked (with_mark b w)) (sym same) (mark_new b w)
+          | inr same ↦ subst (IsMarked (with_mark b w after.lists)) (sym same) (mark_new b w)
         ]
       ]),
     );

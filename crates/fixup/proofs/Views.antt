@@ -60,16 +60,16 @@ module _ (b : Book) (id : ℕ) (q : Path) (fresh : path_at b.arena id ≡ None) 
 -- ---- a path that is marked
 
 module _ (b : Book) (id : ℕ) where
-  contains_is : (k : ℕ) → set.contains (with_mark b id).marked k ≡ (eq_by_cmp nat_cmp k id || set.contains b.marked k)
+  contains_is : (k : ℕ) → set.contains (with_mark b id b.lists).marked k ≡ (eq_by_cmp nat_cmp k id || set.contains b.marked k)
   contains_is k = set.contains-insert nat_cmp_total b.marked id k
 
-  pub mark_new : IsMarked (with_mark b id) id
+  pub mark_new : IsMarked (with_mark b id b.lists) id
   mark_new = contains_is id ∙ or_left (eq_by_cmp nat_cmp id id) (set.contains b.marked id) (tied_key id)
 
-  pub mark_still : (k : ℕ) → IsMarked b k → IsMarked (with_mark b id) k
+  pub mark_still : (k : ℕ) → IsMarked b k → IsMarked (with_mark b id b.lists) k
   mark_still k h = contains_is k ∙ or_right (eq_by_cmp nat_cmp k id) (set.contains b.marked k) h
 
-  pub mark_cases : (k : ℕ) → IsMarked (with_mark b id) k → IsMarked b k ⊎ (k ≡ id)
+  pub mark_cases : (k : ℕ) → IsMarked (with_mark b id b.lists) k → IsMarked b k ⊎ (k ≡ id)
   mark_cases k h = elim (cases_eq k id) [
     | inl same ↦ inr same
     | inr apart ↦ elim (or_cases (eq_by_cmp nat_cmp k id) (set.contains b.marked k) (sym (contains_is k) ∙ h)) [
@@ -78,7 +78,7 @@ module _ (b : Book) (id : ℕ) where
     ]
   ]
 
-  pub marked_then : (p : List ℕ) → Marked (with_mark b id) p ↔ (Marked b p ⊎ (p ≡ list_of b.arena id))
+  pub marked_then : (p : List ℕ) → Marked (with_mark b id b.lists) p ↔ (Marked b p ⊎ (p ≡ list_of b.arena id))
   marked_then p = (
     λ h. elim (mark_cases h.0 h.1) [ inl old ↦ inl (h.0, old, h.2) | inr new ↦ inr (sym h.2 ∙ ap (list_of b.arena) new) ],
     λ h. elim h [ inl old ↦ (old.0, mark_still old.0 old.1, old.2) | inr new ↦ (id, mark_new, sym new) ],

@@ -11,6 +11,7 @@ use Rattle.path_arena.proofs.Keys.{get_put_other, get_gone, get_gone_other}
 use Rattle.path_arena.proofs.Paths.{path_of_at, live_from_edge}
 use Rattle.pair_heaps.specs.Heaps.{Heaps, Fits, HasEnds, place_of}
 use Rattle.pair_heaps.proofs.Places.{place_once, ends_inside}
+use Rattle.extension_lists.specs.Known.{Known}
 use Rattle.path_book.specs.Book.{Book, IsMarked, with_kept, with_mark, IsForgotten, IsOpening, IsBook, IsLeastKept, KeepsNone, IsPendingLeast, HasNoPendingLeast}
 use Rattle.path_book.specs.Flags.{Flags, flag_at, with_flag}
 use Rattle.path_book.specs.Layout.{IsCalm}
@@ -137,8 +138,8 @@ ends_in_flags b seen s id x y was calm is edge begins finishes =
 
 -- ---- the other calls
 
-pub calm_promoted : (b : Book) (id : ℕ) (s : Flags) → IsCalm b s → IsCalm (with_mark b id) s
-calm_promoted b id s calm = record {
+pub calm_promoted : (b : Book) (id : ℕ) (lists : Known) (s : Flags) → IsCalm b s → IsCalm (with_mark b id lists) s
+calm_promoted b id lists s calm = record {
   vertices = calm.vertices;
   calm = λ u v u_in v_in down. elim (calm.calm u v u_in v_in down) [
     | inl none ↦ inl none

@@ -8,6 +8,7 @@ use Rattle.apsp_model.specs.Paths.{KeptPath}
 use Rattle.path_arena.specs.Arena.{Path, path_at, vertex_of, IsLive, no_path, path_of, list_of, single, joined_path, CanJoin, without_path, with_path}
 use Rattle.path_arena.proofs.Keys.{get_put, get_put_other, get_gone, get_gone_other}
 use Rattle.path_arena.proofs.Paths.{live_from, live_apart, path_of_at, Meeting, meeting}
+use Rattle.extension_lists.specs.Known.{Known}
 use Rattle.path_book.specs.Book.{Book, IsMarked, kept_path, kept_paths, with_kept, with_mark, IsForgotten, IsNewList, IsOpening, IsBook}
 use Rattle.path_book.proofs.Kept.{in_kept, to_kept, live_is_kept, kept_at}
 use Rattle.path_book.proofs.Sets.{marked_put, marked_put_other, marked_gone_other}
@@ -60,12 +61,12 @@ module _ (b : Book) (id : ℕ) (was : IsBook b) (live : IsLive b.arena id) where
   now_historical = record { list = list_of b.arena id; weight = (path_of b.arena id).weight; historical = true; birth = (path_of b.arena id).birth }
 
   -- one path is historical now, and all others are as before
-  pub kept_promoted : (k : KeptPath) → Contains (kept_paths (with_mark b id)) k ↔ ((Contains (kept_paths b) k × (k.list ≡ list_of b.arena id → ⊥)) ⊎ (k ≡ record { list = list_of b.arena id; weight = (path_of b.arena id).weight; historical = true; birth = (path_of b.arena id).birth }))
-  kept_promoted k = (
+  pub kept_promoted : (lists : Known) (k : KeptPath) → Contains (kept_paths (with_mark b id lists)) k ↔ ((Contains (kept_paths b) k × (k.list ≡ list_of b.arena id → ⊥)) ⊎ (k ≡ record { list = list_of b.arena id; weight = (path_of b.arena id).weight; historical = true; birth = (path_of b.arena id).birth }))
+  kept_promoted lists k = (
     λ c. (
-        let e = kept_at (with_mark b id) k c in
+        let e = kept_at (with_mark b id lists) k c in
         elim (cases_eq e.id id) [
-          | inl same ↦ inr (sym e.is ∙ ap (λ j. kept_path (with_mark b id) j (path_of b.arena j)) same ∙ (λ i. record { list = list_of b.arena id; weight = (path_of b.arena id).weight; historical = marked_put b.marked id i; birth = (path_of b.arena id).birth }))
+          | inl same ↦ inr (sym e.is ∙ ap (λ j. kept_path (with_mark b id lists) j (path_of b.arena j)) same ∙ (λ i. record { list = list_of b.arena id; weight = (path_of b.arena id).weight; historical = marked_put b.marked id i; birth = (path_of b.arena id).birth }))
           | inr apart ↦
               let mark : set.contains (set.insert b.marked id) e.id ≡ set.contains b.marked e.id = marked_put_other b.marked id e.id apart in
               let is : kept_path b e.id (path_of b.arena e.id) ≡ k = (λ i. record { list = list_of b.arena e.id; weight = (path_of b.arena e.id).weight; historical = sym mark i; birth = (path_of b.arena e.id).birth }) ∙ e.is in
@@ -77,12 +78,12 @@ module _ (b : Book) (id : ℕ) (was : IsBook b) (live : IsLive b.arena id) where
           let e = kept_at b k before.0 in
           let apart : e.id ≢ id = λ same. before.1 (sym e.list ∙ ap (list_of b.arena) same) in
           let mark : set.contains (set.insert b.marked id) e.id ≡ set.contains b.marked e.id = marked_put_other b.marked id e.id apart in
-          let is : kept_path (with_mark b id) e.id (path_of b.arena e.id) ≡ k = (λ i. record { list = list_of b.arena e.id; weight = (path_of b.arena e.id).weight; historical = mark i; birth = (path_of b.arena e.id).birth }) ∙ e.is in
-          subst (Contains (kept_paths (with_mark b id))) is (live_is_kept (with_mark b id) e.id e.live)
+          let is : kept_path (with_mark b id lists) e.id (path_of b.arena e.id) ≡ k = (λ i. record { list = list_of b.arena e.id; weight = (path_of b.arena e.id).weight; historical = mark i; birth = (path_of b.arena e.id).birth }) ∙ e.is in
+          subst (Contains (kept_paths (with_mark b id lists))) is (live_is_kept (with_mark b id lists) e.id e.live)
           )
       | inr now ↦ (
-          let is : kept_path (with_mark b id) id (path_of b.arena id) ≡ now_historical = (λ i. record { list = list_of b.arena id; weight = (path_of b.arena id).weight; historical = marked_put b.marked id i; birth = (path_of b.arena id).birth }) in
-          subst (Contains (kept_paths (with_mark b id))) (is ∙ sym now) (live_is_kept (with_mark b id) id live)
+          let is : kept_path (with_mark b id lists) id (path_of b.arena id) ≡ now_historical = (λ i. record { list = list_of b.arena id; weight = (path_of b.arena id).weight; historical = marked_put b.marked id i; birth = (path_of b.arena id).birth }) in
+          subst (Contains (kept_paths (with_mark b id lists))) (is ∙ sym now) (live_is_kept (with_mark b id lists) id live)
           )
     ],
   )
@@ -142,13 +143,13 @@ formed_pending b c id p was fresh is mark =
 pub still_pending_formed : (b c : Book) (id q : ℕ) (p : Path) → c ≡ with_kept b id p → (IsMarked b q → ⊥) → IsMarked c q → ⊥
 still_pending_formed b c id q p is pending mark = pending (subst (λ d. IsMarked d q) is mark)
 
-pub still_pending_marked : (b c : Book) (id q : ℕ) → c ≡ with_mark b id → q ≢ id → (IsMarked b q → ⊥) → IsMarked c q → ⊥
+pub still_pending_marked : (b c : Book) (id q : ℕ) → c ≡ with_mark b id c.lists → q ≢ id → (IsMarked b q → ⊥) → IsMarked c q → ⊥
 still_pending_marked b c id q is apart pending mark = pending (sym (marked_put_other b.marked id q apart) ∙ subst (λ d. IsMarked d q) is mark)
 
-pub marked_now : (b c : Book) (id : ℕ) → c ≡ with_mark b id → IsMarked c id
+pub marked_now : (b c : Book) (id : ℕ) → c ≡ with_mark b id c.lists → IsMarked c id
 marked_now b c id is = subst (λ d. IsMarked d id) (sym is) (marked_put b.marked id)
 
-pub still_marked : (b c : Book) (id q : ℕ) → c ≡ with_mark b id → IsMarked b q → IsMarked c q
+pub still_marked : (b c : Book) (id q : ℕ) → c ≡ with_mark b id c.lists → IsMarked b q → IsMarked c q
 still_marked b c id q is mark = subst (λ d. IsMarked d q) (sym is) (elim (cases_eq q id) [
   | inl same ↦ ap (set.contains (set.insert b.marked id)) same ∙ marked_put b.marked id
   | inr apart ↦ marked_put_other b.marked id q apart ∙ mark

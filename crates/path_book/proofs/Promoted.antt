@@ -8,11 +8,11 @@ use Rattle.fixup_math.proofs.Counting.{count_more}
 use Rattle.path_arena.specs.Arena.{Path, IsLive, path_of, list_of, left_of, right_of, HasAnEdge}
 use Rattle.path_arena.proofs.Paths.{Parted, parted, live_from_edge}
 use Rattle.pair_heaps.specs.Heaps.{Heaps}
-use Rattle.extension_lists.specs.Known.{Known, IsKnown, sides_at, starred}
+use Rattle.extension_lists.specs.Known.{Known, IsKnown, IsStarred, sides_at}
 use Rattle.path_book.specs.Book.{Book, IsMarked, left_id, right_id, with_mark, HasExtensions, IsBook}
 use Rattle.path_book.specs.Layout.{marked_in, IsCounted, IsStored}
 use Rattle.path_book.proofs.Sets.{marked_put, marked_put_other}
-use Rattle.path_book.proofs.Sides.{grown, sides_of_two, sides_of_two_later, sides_of_two_kept, known_two}
+use Rattle.path_book.proofs.Sides.{grown}
 use Rattle.path_book.proofs.Counts.{count_less}
 use Rattle.path_book.proofs.Places.{marked_set}
 
@@ -55,45 +55,46 @@ module _ (b : Book) (id : ℕ) (was : IsBook b) (edge : HasAnEdge b.arena id) (p
     ],
   )
 
-  pub extensions_promoted : HasExtensions b.arena (set.insert b.marked id) (starred b.lists id (left_id (path_of b.arena id)) (right_id (path_of b.arena id)))
-  extensions_promoted = record {
-    known = λ q. (
-        let two = known_two b.lists (left_id (path_of b.arena id)) (right_id (path_of b.arena id)) (λ s. record s { right_star = s.right_star ++ id ∷ [] }) (λ s. record s { left_star = s.left_star ++ id ∷ [] }) q (known_left b id was edge) (known_right b id was edge) in
-        (λ h. (was.extensions.known q).0 (two.0 h), λ live. two.1 ((was.extensions.known q).1 live))
-        );
-    left = λ k q. (
-        let same = sides_of_two_kept b.lists (left_id (path_of b.arena id)) (right_id (path_of b.arena id)) (λ s. record s { right_star = s.right_star ++ id ∷ [] }) (λ s. record s { left_star = s.left_star ++ id ∷ [] }) (λ s. s.left) k (λ s. refl) (λ s. refl) in
-        subst (λ xs. Contains xs q ↔ (right_of b.arena q ≡ Some k)) (sym same) (was.extensions.left k q)
-        );
-    right = λ k q. (
-        let same = sides_of_two_kept b.lists (left_id (path_of b.arena id)) (right_id (path_of b.arena id)) (λ s. record s { right_star = s.right_star ++ id ∷ [] }) (λ s. record s { left_star = s.left_star ++ id ∷ [] }) (λ s. s.right) k (λ s. refl) (λ s. refl) in
-        subst (λ xs. Contains xs q ↔ (left_of b.arena q ≡ Some k)) (sym same) (was.extensions.right k q)
-        );
-    left_star = λ k q.
-        grown (sides_at b.lists k).left_star (sides_at (starred b.lists id (left_id (path_of b.arena id)) (right_id (path_of b.arena id))) k).left_star id (k == right_id (path_of b.arena id))
-        (λ j. (right_of b.arena j ≡ Some k) × IsMarked b j) (λ j. (right_of b.arena j ≡ Some k) × IsTrue (set.contains (set.insert b.marked id) j))
-        (sides_of_two_later b.lists (left_id (path_of b.arena id)) (right_id (path_of b.arena id)) (λ s. record s { right_star = s.right_star ++ id ∷ [] }) (λ s. record s { left_star = s.left_star ++ id ∷ [] }) (λ s. s.left_star) id k (λ s. refl) (λ s. refl))
-        (was.extensions.left_star k) (star_with (λ p. p.right) (right_id (path_of b.arena id)) (right_is b id was edge) k) q;
-    right_star = λ k q.
-        grown (sides_at b.lists k).right_star (sides_at (starred b.lists id (left_id (path_of b.arena id)) (right_id (path_of b.arena id))) k).right_star id (k == left_id (path_of b.arena id))
-        (λ j. (left_of b.arena j ≡ Some k) × IsMarked b j) (λ j. (left_of b.arena j ≡ Some k) × IsTrue (set.contains (set.insert b.marked id) j))
-        (sides_of_two b.lists (left_id (path_of b.arena id)) (right_id (path_of b.arena id)) (λ s. record s { right_star = s.right_star ++ id ∷ [] }) (λ s. record s { left_star = s.left_star ++ id ∷ [] }) (λ s. s.right_star) id k (λ s. refl) (λ s. refl))
-        (was.extensions.right_star k) (star_with (λ p. p.left) (left_id (path_of b.arena id)) (left_is b id was edge) k) q;
-  }
+  module _ (lists : Known) (starred : IsStarred b.lists lists id (left_id (path_of b.arena id)) (right_id (path_of b.arena id))) where
+    pub extensions_promoted : HasExtensions b.arena (set.insert b.marked id) lists
+    extensions_promoted = record {
+      known = λ q. (
+        λ h. (was.extensions.known q).0 (sym (starred.known q) ∙ h),
+        λ live. starred.known q ∙ (was.extensions.known q).1 live,
+      );
+      left = λ k q. (
+        λ c. (was.extensions.left k q).0 (((starred.left k).1 q).0 c),
+        λ is. ((starred.left k).1 q).1 ((was.extensions.left k q).1 is),
+      );
+      right = λ k q. (
+        λ c. (was.extensions.right k q).0 (((starred.right k).1 q).0 c),
+        λ is. ((starred.right k).1 q).1 ((was.extensions.right k q).1 is),
+      );
+      left_star = λ k q.
+          grown (sides_at b.lists k).left_star (sides_at lists k).left_star id (k == right_id (path_of b.arena id))
+          (λ j. (right_of b.arena j ≡ Some k) × IsMarked b j) (λ j. (right_of b.arena j ≡ Some k) × IsTrue (set.contains (set.insert b.marked id) j))
+          (starred.left_star k)
+          (was.extensions.left_star k) (star_with (λ p. p.right) (right_id (path_of b.arena id)) (right_is b id was edge) k) q;
+      right_star = λ k q.
+          grown (sides_at b.lists k).right_star (sides_at lists k).right_star id (k == left_id (path_of b.arena id))
+          (λ j. (left_of b.arena j ≡ Some k) × IsMarked b j) (λ j. (left_of b.arena j ≡ Some k) × IsTrue (set.contains (set.insert b.marked id) j))
+          (starred.right_star k)
+          (was.extensions.right_star k) (star_with (λ p. p.left) (left_id (path_of b.arena id)) (left_is b id was edge) k) q;
+    }
 
-  pub book_promoted : IsBook (with_mark b id)
-  book_promoted = record {
-    arena = was.arena;
-    once = was.once;
-    marked_live = λ q mark. elim (cases_eq q id) [
-      | inl same ↦ subst (λ j. IsLive b.arena j) (sym same) (live_from_edge b.arena id was.arena edge)
-      | inr apart ↦ was.marked_live q (sym (marked_put_other b.marked id q apart) ∙ mark)
-    ];
-    singles = λ v l. still_marked _ (was.singles v l);
-    left_marked = λ q k is. still_marked k (was.left_marked q k is);
-    right_marked = λ q k is. still_marked k (was.right_marked q k is);
-    extensions = extensions_promoted;
-  }
+    pub book_promoted : IsBook (with_mark b id lists)
+    book_promoted = record {
+      arena = was.arena;
+      once = was.once;
+      marked_live = λ q mark. elim (cases_eq q id) [
+        | inl same ↦ subst (λ j. IsLive b.arena j) (sym same) (live_from_edge b.arena id was.arena edge)
+        | inr apart ↦ was.marked_live q (sym (marked_put_other b.marked id q apart) ∙ mark)
+      ];
+      singles = λ v l. still_marked _ (was.singles v l);
+      left_marked = λ q k is. still_marked k (was.left_marked q k is);
+      right_marked = λ q k is. still_marked k (was.right_marked q k is);
+      extensions = extensions_promoted;
+    }
 
   down : set.contains b.marked id ≡ false
   down = go (set.contains b.marked id) refl
@@ -106,9 +107,9 @@ module _ (b : Book) (id : ℕ) (was : IsBook b) (edge : HasAnEdge b.arena id) (p
   same_id : (i : ℕ) → HasAnEdge b.arena i → list_of b.arena i ≡ list_of b.arena id → i ≡ id
   same_id i edge_i same = was.once i id (live_from_edge b.arena i was.arena edge_i) (live_from_edge b.arena id was.arena edge) same
 
-  pub historical_promoted : (n : ℕ) → CountIs (IsCounted b true) n → CountIs (IsCounted (with_mark b id) true) (n + 1)
-  historical_promoted n c =
-      count_more (IsCounted b true) (IsCounted (with_mark b id) true) n (list_of b.arena id)
+  pub historical_promoted : (lists : Known) (n : ℕ) → CountIs (IsCounted b true) n → CountIs (IsCounted (with_mark b id lists) true) (n + 1)
+  historical_promoted lists n c =
+      count_more (IsCounted b true) (IsCounted (with_mark b id lists) true) n (list_of b.arena id)
       (λ h. (let e : h.0 ≡ id = same_id h.0 h.1 h.2 in pending (sym (ap (set.contains b.marked) e) ∙ h.3)))
       (λ q. (
         λ h. elim (cases_eq h.0 id) [
@@ -121,9 +122,9 @@ module _ (b : Book) (id : ℕ) (was : IsBook b) (edge : HasAnEdge b.arena id) (p
         ],
       )) c
 
-  pub pending_promoted : (n : ℕ) → CountIs (IsCounted b false) n → (1 ≤ n) × CountIs (IsCounted (with_mark b id) false) (n - 1)
-  pending_promoted n c =
-      count_less (IsCounted b false) (IsCounted (with_mark b id) false) n (list_of b.arena id) (id, edge, refl, down)
+  pub pending_promoted : (lists : Known) (n : ℕ) → CountIs (IsCounted b false) n → (1 ≤ n) × CountIs (IsCounted (with_mark b id lists) false) (n - 1)
+  pending_promoted lists n c =
+      count_less (IsCounted b false) (IsCounted (with_mark b id lists) false) n (list_of b.arena id) (id, edge, refl, down)
       (λ q. (
         λ h. (
             let apart : h.0 ≢ id = λ same. (false≢true (sym h.3 ∙ ap (set.contains (set.insert b.marked id)) same ∙ marked_put b.marked id)) in
@@ -135,26 +136,29 @@ module _ (b : Book) (id : ℕ) (was : IsBook b) (edge : HasAnEdge b.arena id) (p
             ),
       )) c
 
-  pub stored_promoted : (held : Heaps) (historical waiting : ℕ) → IsStored b held historical waiting → (1 ≤ waiting) × IsStored (with_mark b id) held (historical + 1) (waiting - 1)
-  stored_promoted held historical waiting stored =
-      let less = pending_promoted waiting stored.pending_count in
+  pub stored_promoted : (lists : Known) → IsStarred b.lists lists id (left_id (path_of b.arena id)) (right_id (path_of b.arena id)) → (held : Heaps) (historical waiting : ℕ) → IsStored b held historical waiting → (1 ≤ waiting) × IsStored (with_mark b id lists) held (historical + 1) (waiting - 1)
+  stored_promoted lists starred held historical waiting stored =
+      let less = pending_promoted lists waiting stored.pending_count in
       let some : 1 ≤ waiting = less.0 in
       let most : historical + waiting ≤ 2 ^ 48 = stored.most in (
         some,
         record {
-          book = book_promoted;
+          book = book_promoted lists starred;
           heaps = stored.heaps;
-          historical_count = historical_promoted historical stored.historical_count;
+          historical_count = historical_promoted lists historical stored.historical_count;
           pending_count = less.1;
           most = omega arith;
         },
       )
 
--- the book with a mark set and the starred lists longer
-pub is_promoted : (b : Book) (marks : List Bool) (id key l r : ℕ) (lists : Known) → marked_in marks ≡ b.marked → key ≡ id → key < length marks → left_of b.arena id ≡ Some l → right_of b.arena id ≡ Some r → lists ≡ starred b.lists id l r → ◌≡◌ {A = Book} (record { arena = b.arena; marked = marked_in (slice_set marks key true); lists = lists }) (with_mark b id)
-is_promoted b marks id key l r lists same here room left right is =
+-- the starred lists of the parts are longer
+pub is_starred : (b : Book) (id l r : ℕ) (lists : Known) → left_of b.arena id ≡ Some l → right_of b.arena id ≡ Some r → IsStarred b.lists lists id l r → IsStarred b.lists lists id (left_id (path_of b.arena id)) (right_id (path_of b.arena id))
+is_starred b id l r lists left right starred =
+    subst (λ m. IsStarred b.lists lists id m (right_id (path_of b.arena id))) (ap (λ o. unwrap_or o 0) (sym left))
+    (subst (λ m. IsStarred b.lists lists id l m) (ap (λ o. unwrap_or o 0) (sym right)) starred)
+
+-- the book with a mark set and these lists
+pub is_promoted : (b : Book) (marks : List Bool) (id key : ℕ) (lists : Known) → marked_in marks ≡ b.marked → key ≡ id → key < length marks → ◌≡◌ {A = Book} (record { arena = b.arena; marked = marked_in (slice_set marks key true); lists = lists }) (with_mark b id lists)
+is_promoted b marks id key lists same here room =
     let marked : marked_in (slice_set marks key true) ≡ set.insert b.marked id = marked_set marks key room ∙ (λ i. set.insert (same i) (here i)) in
-    let to_l : l ≡ left_id (path_of b.arena id) = ap (λ o. unwrap_or o 0) (sym left) in
-    let to_r : r ≡ right_id (path_of b.arena id) = ap (λ o. unwrap_or o 0) (sym right) in
-    let starred_is : lists ≡ starred b.lists id (left_id (path_of b.arena id)) (right_id (path_of b.arena id)) = is ∙ (λ i. starred b.lists id (to_l i) (to_r i)) in
-    λ i. record { arena = b.arena; marked = marked i; lists = starred_is i }
+    λ i. record { arena = b.arena; marked = marked i; lists = lists }

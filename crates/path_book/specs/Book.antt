@@ -10,7 +10,7 @@ use Rattle.apsp_model.specs.Counts.{CountIs}
 use Rattle.apsp_model.specs.Paths.{KeptPath, IsKeptIn, IsHistoricalIn}
 use Rattle.path_arena.specs.Arena.{Path, Arena, arena_code, path_of, vertex_of, IsLive, list_of, left_of, right_of, with_path, without_path, id_cmp, IsArena}
 use Rattle.pair_heaps.specs.Heaps.{HasEnds}
-use Rattle.extension_lists.specs.Known.{Known, known_code, IsKnown, sides_at, no_sides, added, starred, IsDropped}
+use Rattle.extension_lists.specs.Known.{Known, known_code, IsKnown, sides_at, no_sides, added, IsDropped}
 
 -- the paths by id, all of which are kept, the ids of those that are historical, and the extensions of each by one edge
 pub record Book : Type 0 where
@@ -54,9 +54,9 @@ entered lists id l r = added (paths.insert lists id no_sides) id l r
 abbrev pub with_kept : Book → ℕ → Path → Book
 with_kept b id p = record { arena = with_path b.arena id p; marked = b.marked; lists = entered b.lists id (left_id p) (right_id p) }
 
--- a kept path becomes historical
-abbrev pub with_mark : Book → ℕ → Book
-with_mark b id = record { arena = b.arena; marked = set.insert b.marked id; lists = starred b.lists id (left_id (path_of b.arena id)) (right_id (path_of b.arena id)) }
+-- a kept path becomes historical, and the lists are these then
+abbrev pub with_mark : Book → ℕ → Known → Book
+with_mark b id lists = record { arena = b.arena; marked = set.insert b.marked id; lists = lists }
 
 -- a path is kept no more; the lists of its parts lack it, in any order
 pub record IsForgotten (old new : Book) (id : ℕ) : Type 0 where

@@ -3,8 +3,9 @@
 ghost use Rattle.std.specs.Prelude.{◌≡◌, ◌≢◌, ℕ, ◌<◌, ◌≤◌, ◌^◌, ◌↔◌, ◌∷◌, [], All, Some, IfNone, IfOk, IfSome, OnOk, OnErr, MatchOption, Contains, length};
 ghost use Rattle.std.specs.FinSet as set;
 ghost use Rattle.apsp_model.specs.Paths.{IsKeptIn, HasBirthIn};
-ghost use Rattle.path_arena.specs.Arena.{path_at, IsLive, HasAnEdge, edge_path, joined_path, IsPartOfNone, CanJoin};
-ghost use Rattle.path_book.specs.Book.{IsBook, IsMarked, IsOpening, kept_paths, IsNewList, with_kept, with_mark, IsForgotten, IsLeastKept, KeepsNone, IsPendingLeast, HasNoPendingLeast, PathsCount, HistoricalCount};
+ghost use Rattle.extension_lists.specs.Known.{IsStarred};
+ghost use Rattle.path_arena.specs.Arena.{path_at, path_of, IsLive, HasAnEdge, edge_path, joined_path, IsPartOfNone, CanJoin};
+ghost use Rattle.path_book.specs.Book.{IsBook, IsMarked, IsOpening, kept_paths, IsNewList, with_kept, with_mark, left_id, right_id, IsForgotten, IsLeastKept, KeepsNone, IsPendingLeast, HasNoPendingLeast, PathsCount, HistoricalCount};
 
 use crate::admit::{admit, enter_vertices};
 use crate::marks::{clear, is_marked, make_room};
@@ -124,7 +125,8 @@ impl Book {
     pub fn promote(&mut self, id: PathId) -> Result<(), Memory>
         requires live { IsLive self.old.arena id }
         requires pending { IsMarked self.old id → ⊥ }
-        ensures marked { OnOk result (self.new ≡ with_mark self.old id) }
+        ensures marked { OnOk result (self.new ≡ with_mark self.old id self.new.lists) }
+        ensures starred { OnOk result (IsStarred self.old.lists self.new.lists id (left_id (path_of self.old.arena id)) (right_id (path_of self.old.arena id))) }
         ensures lawful { IsBook self.new }
         ensures memory { OnErr result (self.new ≡ self.old) }
     {
