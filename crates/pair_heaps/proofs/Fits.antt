@@ -1,27 +1,19 @@
 -- What heaps need of an arena that they fit, and when they fit it after a change.
-use Rattle.std.specs.Prelude.{◌≡◌, ℕ, ◌⊎◌, List, [], ◌∷◌, Contains, Some, None, IsSome, is_some, unwrap_or, cond, true, false, ◌<◌, Vec, refl}
+use Rattle.std.specs.Prelude.{◌≡◌, ℕ, ◌⊎◌, List, [], Contains, Some, None, IsSome, is_some, unwrap_or, cond, true, false, ◌<◌, refl}
 use Rattle.std.specs.Ordering.{nat_cmp, eq_by_cmp}
 use Rattle.std.specs.Cmp.{nat_cmp_total}
 use Rattle.std.specs.FinMap.{get-insert}
 use Rattle.std.proofs.lemmas.Bool.{false≢true}
 use Rattle.std.proofs.lemmas.Bool.Decides.{nat_tests}
-use Rattle.std.specs.declared.alloc.Global.{Global}
 use Rattle.std.proofs.Common.{sym, ◌∙◌, ap, subst, inl, inr, arith, get_or, set}
-use Rattle.std.proofs.lemmas.List.Elements.{Contains-append_right}
 use Rattle.apsp_model.specs.Order.{path_cmp}
 use Rattle.apsp_model.specs.Walk.{first, last}
 use Rattle.apsp_model.proofs.Lists.{contains_nil}
-use Rattle.path_arena.specs.declared.id.PathId.{PathId}
 use Rattle.path_arena.specs.Arena.{Arena, Path, path_at, with_path, no_path, IsArena, IsLive, list_of, weight_of, id_cmp}
-use Rattle.pair_heaps.specs.Heaps.{Pair, Heaps, held_at, IsHeld, IsArranged, HasEnds, Fits, AgreeOnHeld, ChangesOnly, place_of}
-use Rattle.pair_heaps.specs.Layout.{pair_of, heaps_of, IsHeaps}
+use Rattle.pair_heaps.specs.Heaps.{Pair, Heaps, held_at, IsHeld, IsHeap, HasEnds, Fits, AgreeOnHeld, ChangesOnly, place_of}
+use Rattle.pair_heaps.specs.Rows.{heaps_of, IsHeaps}
+use Rattle.pair_heaps.proofs.Sifted.{heap_same}
 use Rattle.pair_heaps.proofs.Places.{same_pair, ends_inside, at_ends, IsWritten, written}
-
-head_in : (x : ℕ) (xs : List ℕ) → Contains (x ∷ xs) x
-head_in x xs = (0, omega arith, refl)
-
-tail_in : (x y : ℕ) (xs : List ℕ) → Contains xs x → Contains (y ∷ xs) x
-tail_in x y xs c = Contains-append_right (y ∷ []) xs x c
 
 -- the order of two ids depends on their lists and weights alone
 id_cmp_same : (a b : Arena) (p q : ℕ) → list_of b p ≡ list_of a p → weight_of b p ≡ weight_of a p → list_of b q ≡ list_of a q → weight_of b q ≡ weight_of a q → id_cmp b p q ≡ id_cmp a p q
@@ -31,19 +23,12 @@ id_cmp_same a b p q lp wp lq wq =
     ∙ ap (λ w. path_cmp (weight_of a p) (list_of a p) w (list_of b q)) wq
     ∙ ap (λ l. path_cmp (weight_of a p) (list_of a p) (weight_of a q) l) lq
 
-arranged_same : (a b : Arena) (ids : List ℕ) → ((p q : ℕ) → Contains ids p → Contains ids q → id_cmp b p q ≡ id_cmp a p q) → IsArranged a ids → IsArranged b ids
-arranged_same a b [] same h = tt
-arranged_same a b (id ∷ ids) same h = (
-  λ q c below. h.0 q c (sym (same q id (tail_in q id ids c) (head_in id ids)) ∙ below),
-  arranged_same a b ids (λ p q c d. same p q (tail_in p id ids c) (tail_in q id ids d)) h.1,
-)
-
 pub fits_agree : (h : Heaps) (a b : Arena) → Fits h a → AgreeOnHeld h a b → Fits h b
 fits_agree h a b fits agree = record {
   vertices = agree.vertices ∙ fits.vertices;
   live = λ x y id c. agree.live id (x, y, c);
   ends = λ x y id c. (ap first (agree.lists id (x, y, c)) ∙ (fits.ends x y id c).0, ap last (agree.lists id (x, y, c)) ∙ (fits.ends x y id c).1);
-  arranged = λ x y. arranged_same a b (held_at h x y)
+  arranged = λ x y. heap_same a b (held_at h x y)
       (λ p q c d. id_cmp_same a b p q (agree.lists p (x, y, c)) (agree.weights p (x, y, c)) (agree.lists q (x, y, d)) (agree.weights q (x, y, d)))
       (fits.arranged x y);
 }
@@ -54,7 +39,7 @@ fits_same h k a vertices same fits = record {
   vertices = fits.vertices ∙ sym vertices;
   live = λ x y id c. fits.live x y id (subst (λ ids. Contains ids id) (same x y) c);
   ends = λ x y id c. fits.ends x y id (subst (λ ids. Contains ids id) (same x y) c);
-  arranged = λ x y. subst (IsArranged a) (sym (same x y)) (fits.arranged x y);
+  arranged = λ x y. subst (IsHeap a) (sym (same x y)) (fits.arranged x y);
 }
 
 -- heaps that hold nothing fit every arena of as many vertices
@@ -63,11 +48,11 @@ fits_empty h a vertices none = record {
   vertices = vertices;
   live = λ x y id c. absurd (contains_nil id (subst (λ ids. Contains ids id) (none x y) c));
   ends = λ x y id c. absurd (contains_nil id (subst (λ ids. Contains ids id) (none x y) c));
-  arranged = λ x y. subst (IsArranged a) (sym (none x y)) tt;
+  arranged = λ x y. subst (IsHeap a) (sym (none x y)) (λ i some inside. absurd (omega arith));
 }
 
 -- what the changed pair has to have
-pub fits_changed : (h k : Heaps) (a : Arena) (x y : ℕ) → Fits h a → ChangesOnly h k x y → ((id : ℕ) → Contains (held_at k x y) id → IsLive a id × HasEnds a id x y) → IsArranged a (held_at k x y) → Fits k a
+pub fits_changed : (h k : Heaps) (a : Arena) (x y : ℕ) → Fits h a → ChangesOnly h k x y → ((id : ℕ) → Contains (held_at k x y) id → IsLive a id × HasEnds a id x y) → IsHeap a (held_at k x y) → Fits k a
 fits_changed h k a x y fits only here arranged = record {
   vertices = fits.vertices ∙ sym only.vertices;
   live = λ u v id c. elim (same_pair x y u v) [
@@ -79,8 +64,8 @@ fits_changed h k a x y fits only here arranged = record {
     | inr other ↦ fits.ends u v id (at_other u v id other c)
   ];
   arranged = λ u v. elim (same_pair x y u v) [
-    | inl one ↦ subst (λ w. IsArranged a (held_at k w v)) (sym one.0) (subst (λ w. IsArranged a (held_at k x w)) (sym one.1) arranged)
-    | inr other ↦ subst (IsArranged a) (sym (ap (λ p. p.held) (only.others u v other))) (fits.arranged u v)
+    | inl one ↦ subst (λ w. IsHeap a (held_at k w v)) (sym one.0) (subst (λ w. IsHeap a (held_at k x w)) (sym one.1) arranged)
+    | inr other ↦ subst (IsHeap a) (sym (ap (λ p. p.held) (only.others u v other))) (fits.arranged u v)
   ];
 }
   where
@@ -98,7 +83,7 @@ ends_in_rows h a id x y fits lawful live ends =
     let as_many : a.vertices ≡ h.vertices = fits.vertices in
     (omega (arith, inside.0), omega (arith, inside.1))
 
-pub written_by_ends : (n : ℕ) (items : List (Vec PathId Global)) (h : Heaps) (a : Arena) (id x y k : ℕ) (v w : Vec PathId Global) → heaps_of n items ≡ h → IsHeaps (heaps_of n items) → Fits h a → IsArena a → IsLive a id → HasEnds a id x y → k ≡ place_of h.vertices x y → v ≡ get_or items k v → IsWritten h (heaps_of n (set items k w)) x y (pair_of v) (pair_of w)
+pub written_by_ends : (n : ℕ) (items : List Pair) (h : Heaps) (a : Arena) (id x y k : ℕ) (v w : Pair) → heaps_of n items ≡ h → IsHeaps (heaps_of n items) → Fits h a → IsArena a → IsLive a id → HasEnds a id x y → k ≡ place_of h.vertices x y → v ≡ get_or items k v → IsWritten h (heaps_of n (set items k w)) x y v w
 written_by_ends n items h a id x y k v w is sound fits lawful live ends =
     let rows : (x < h.vertices) × (y < h.vertices) = ends_in_rows h a id x y fits lawful live ends in
     written n items h x y k v w is sound rows.0 rows.1
@@ -110,8 +95,8 @@ live_before h k a x y p q w fits id c = fits.live x y id (subst (λ (r : Pair). 
 pub ends_before : (h k : Heaps) (a : Arena) (x y : ℕ) (p q : Pair) → IsWritten h k x y p q → Fits h a → (id : ℕ) → Contains p.held id → HasEnds a id x y
 ends_before h k a x y p q w fits id c = fits.ends x y id (subst (λ (r : Pair). Contains r.held id) (sym w.was) c)
 
-pub arranged_before : (h k : Heaps) (a : Arena) (x y : ℕ) (p q : Pair) → IsWritten h k x y p q → Fits h a → IsArranged a p.held
-arranged_before h k a x y p q w fits = subst (λ (r : Pair). IsArranged a r.held) w.was (fits.arranged x y)
+pub arranged_before : (h k : Heaps) (a : Arena) (x y : ℕ) (p q : Pair) → IsWritten h k x y p q → Fits h a → IsHeap a p.held
+arranged_before h k a x y p q w fits = subst (λ (r : Pair). IsHeap a r.held) w.was (fits.arranged x y)
 
 -- a held id is in the vector of its pair
 pub held_before : (h k : Heaps) (a : Arena) (id x y : ℕ) (p q : Pair) → IsWritten h k x y p q → Fits h a → HasEnds a id x y → IsHeld h id → Contains p.held id
@@ -120,14 +105,14 @@ held_before h k a id x y p q w fits ends held =
     (at_ends a id held.0 held.1 (λ u v. Contains (held_at h u v) id) (fits.ends held.0 held.1 id held.2) held.2 x y ends)
 
 -- heaps that fit after one vector is replaced, where each id of it was there or is a live one of the pair
-pub fits_written : (h k : Heaps) (a : Arena) (id x y : ℕ) (p q : Pair) → IsWritten h k x y p q → Fits h a → IsLive a id → HasEnds a id x y → ((r : ℕ) → Contains q.held r → Contains p.held r ⊎ (r ≡ id)) → IsArranged a q.held → Fits k a
+pub fits_written : (h k : Heaps) (a : Arena) (id x y : ℕ) (p q : Pair) → IsWritten h k x y p q → Fits h a → IsLive a id → HasEnds a id x y → ((r : ℕ) → Contains q.held r → Contains p.held r ⊎ (r ≡ id)) → IsHeap a q.held → Fits k a
 fits_written h k a id x y p q w fits live ends only arranged =
     fits_changed h k a x y fits w.only
     (λ r c. elim (only r (subst (λ (s : Pair). Contains s.held r) w.now c)) [
       | inl old ↦ (live_before h k a x y p q w fits r old, ends_before h k a x y p q w fits r old)
       | inr same ↦ (subst (IsLive a) (sym same) live, subst (λ z. HasEnds a z x y) (sym same) ends)
     ])
-    (subst (λ (s : Pair). IsArranged a s.held) (sym w.now) arranged)
+    (subst (λ (s : Pair). IsHeap a s.held) (sym w.now) arranged)
 
 -- ---- a path added to the arena under an id that was not live
 

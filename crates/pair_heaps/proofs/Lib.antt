@@ -1,4 +1,7 @@
-pub mod Orders
-pub mod Arranged
-pub mod Places
 pub mod Fits
+pub mod Fronts
+pub mod Once
+pub mod Orders
+pub mod Pairs
+pub mod Places
+pub mod Sifted

@@ -1,16 +1,14 @@
 -- The place of each pair in rows, and what a change of one pair leaves.
-use Rattle.std.specs.Prelude.{◌≡◌, ℕ, ◌+◌, ◌-◌, ◌*◌, ◌<◌, ◌≤◌, ◌⊎◌, cond, List, [], ◌∷◌, length, map, refl, Contains, Vec, Option, Some, None, IsSome, unwrap_or, Result, Ok, Err, OnOk, OnErr, is_ok, vec_len, vec_capacity}
-use Rattle.std.specs.declared.alloc.Global.{Global}
+use Rattle.std.specs.Prelude.{◌≡◌, ℕ, ◌+◌, ◌*◌, ◌<◌, ◌≤◌, ◌⊎◌, cond, List, [], ◌∷◌, length, refl, Contains, Option, Some, None, IsSome, unwrap_or, Result, Ok, Err, OnOk, OnErr, is_ok}
 use Rattle.std.specs.List.{All}
 use Rattle.std.proofs.Common.{sym, ◌∙◌, ap, subst, arith, inl, inr, get_or, set, add-one}
 use Rattle.std.proofs.lemmas.Bool.{cases_eq, cases_lt, lt-ltb, le-ltb, false≢true, true≢false}
 use Rattle.std.proofs.lemmas.Nat.{mul-add-lt}
-use Rattle.std.proofs.lemmas.List.{get_or-set_same, get_or-set_other, get_or_past, get_or-map, map-set, length-set, length-map, set-get_or}
-use Rattle.apsp_model.specs.Walk.{IsOnceEach, first, last}
-use Rattle.path_arena.specs.declared.id.PathId.{PathId}
+use Rattle.std.proofs.lemmas.List.{get_or-set_same, get_or-set_other, get_or_past, get_or_default, length-set, set-get_or}
+use Rattle.apsp_model.specs.Walk.{first, last}
 use Rattle.path_arena.specs.Arena.{Arena, Path, IsArena, IsLive, path_at, list_of, no_path}
 use Rattle.pair_heaps.specs.Heaps.{Pair, Heaps, no_pair, place_of, pair_at, held_at, HasEnds, ChangesOnly, IsWith, IsWithout, IsReserved, IsInserted, IsRemoved}
-use Rattle.pair_heaps.specs.Layout.{pair_of, heaps_of, IsHeaps}
+use Rattle.pair_heaps.specs.Rows.{heaps_of, IsHeaps}
 
 -- ---- places
 
@@ -51,7 +49,7 @@ same_pair x y u v = elim (cases_eq u x) [
 
 module _ (h : Heaps) (sound : IsHeaps h) (x y : ℕ) (x_in : x < h.vertices) (y_in : y < h.vertices) (p : Pair) where
   inside : place_of h.vertices x y < length h.pairs
-  inside = let places : length h.pairs ≡ h.vertices * h.vertices = sound.places in omega (arith, place_small h.vertices x y x_in y_in)
+  inside = let places : length h.pairs ≡ h.vertices * h.vertices = sound in omega (arith, place_small h.vertices x y x_in y_in)
 
   pub with_pair_here : pair_at (with_pair h x y p) x y ≡ p
   with_pair_here = get_or-set_same h.pairs (place_of h.vertices x y) p no_pair inside
@@ -62,51 +60,44 @@ module _ (h : Heaps) (sound : IsHeaps h) (x y : ℕ) (x_in : x < h.vertices) (y_
     others = λ u v apart. get_or-set_other h.pairs (place_of h.vertices x y) (place_of h.vertices u v) p no_pair (λ same. let one : (u ≡ x) × (v ≡ y) = place_once h.vertices x y u v x_in y_in same in apart one.0 one.1);
   }
 
-  pub with_pair_sound : IsOnceEach p.held → IsHeaps (with_pair h x y p)
-  with_pair_sound once = record {
-    places = length-set h.pairs (place_of h.vertices x y) p ∙ sound.places;
-    once = λ k. elim (cases_eq k (place_of h.vertices x y)) [
-      | inl here ↦ subst (λ (q : Pair). IsOnceEach q.held) (sym (ap (λ j. get_or (set h.pairs (place_of h.vertices x y) p) j no_pair) here ∙ with_pair_here)) once
-      | inr other ↦ subst (λ (q : Pair). IsOnceEach q.held) (sym (get_or-set_other h.pairs (place_of h.vertices x y) k p no_pair other)) (sound.once k)
-    ];
-  }
+  pub with_pair_sound : IsHeaps (with_pair h x y p)
+  with_pair_sound = length-set h.pairs (place_of h.vertices x y) p ∙ sound
 
--- ---- the vectors
+-- ---- one pair is replaced
 
--- the vector of a pair is replaced, so that the pair was p and is q
+-- the pair was p and is q
 pub record IsWritten (h k : Heaps) (x y : ℕ) (p q : Pair) : Type 0 where
   pub was : pair_at h x y ≡ p
   pub now : pair_at k x y ≡ q
   pub only : ChangesOnly h k x y
   pub same : q ≡ p → k ≡ h
-  pub sound : IsOnceEach q.held → IsHeaps k
+  pub sound : IsHeaps k
 
-pub pair_read : (n x y k : ℕ) (items : List (Vec PathId Global)) (v : Vec PathId Global) → k ≡ place_of n x y → k < length items → v ≡ get_or items k v → pair_at (heaps_of n items) x y ≡ pair_of v
-pair_read n x y k items v same inside at =
-    ap (λ j. get_or (map pair_of items) j no_pair) (sym same) ∙ get_or-map pair_of items k v no_pair inside ∙ ap pair_of (sym at)
+pub pair_read : (n x y k : ℕ) (items : List Pair) (v : Pair) → k ≡ place_of n x y → k < length items → v ≡ get_or items k v → pair_at (heaps_of n items) x y ≡ v
+pair_read n x y k items v same inside at = ap (λ j. get_or items j no_pair) (sym same) ∙ get_or_default items k no_pair v inside ∙ sym at
 
-written_to : (n x y k : ℕ) (items : List (Vec PathId Global)) (v w : Vec PathId Global) → IsHeaps (heaps_of n items) → x < n → y < n → k ≡ place_of n x y → k < length items → v ≡ get_or items k v → IsWritten (heaps_of n items) (heaps_of n (set items k w)) x y (pair_of v) (pair_of w)
+written_to : (n x y k : ℕ) (items : List Pair) (v w : Pair) → IsHeaps (heaps_of n items) → x < n → y < n → k ≡ place_of n x y → k < length items → v ≡ get_or items k v → IsWritten (heaps_of n items) (heaps_of n (set items k w)) x y v w
 written_to n x y k items v w sound x_in y_in same inside at =
-    subst (λ (m : Heaps). IsWritten (heaps_of n items) m x y (pair_of v) (pair_of w)) (sym changed) (record {
+    subst (λ (m : Heaps). IsWritten (heaps_of n items) m x y v w) (sym changed) (record {
       was = was;
-      now = with_pair_here (heaps_of n items) sound x y x_in y_in (pair_of w);
-      only = with_pair_only (heaps_of n items) sound x y x_in y_in (pair_of w);
-      same = λ e. ap (λ (q : Pair). with_pair (heaps_of n items) x y q) (e ∙ sym was) ∙ ap (λ (ps : List Pair). let m : Heaps = record { vertices = n; pairs = ps } in m) (set-get_or (map pair_of items) (place_of n x y) no_pair);
-      sound = with_pair_sound (heaps_of n items) sound x y x_in y_in (pair_of w);
+      now = with_pair_here (heaps_of n items) sound x y x_in y_in w;
+      only = with_pair_only (heaps_of n items) sound x y x_in y_in w;
+      same = λ e. ap (λ (q : Pair). with_pair (heaps_of n items) x y q) (e ∙ sym was) ∙ ap (λ (ps : List Pair). let m : Heaps = record { vertices = n; pairs = ps } in m) (set-get_or items (place_of n x y) no_pair);
+      sound = with_pair_sound (heaps_of n items) sound x y x_in y_in w;
     })
   where
-    was : pair_at (heaps_of n items) x y ≡ pair_of v
+    was : pair_at (heaps_of n items) x y ≡ v
     was = pair_read n x y k items v same inside at
 
-    changed : heaps_of n (set items k w) ≡ with_pair (heaps_of n items) x y (pair_of w)
-    changed = ap (λ (ps : List Pair). let m : Heaps = record { vertices = n; pairs = ps } in m) (map-set pair_of items k w ∙ ap (λ j. set (map pair_of items) j (pair_of w)) same)
+    changed : heaps_of n (set items k w) ≡ with_pair (heaps_of n items) x y w
+    changed = ap (λ (ps : List Pair). let m : Heaps = record { vertices = n; pairs = ps } in m) (ap (λ j. set items j w) same)
 
-pub written : (n : ℕ) (items : List (Vec PathId Global)) (h : Heaps) (x y k : ℕ) (v w : Vec PathId Global) → heaps_of n items ≡ h → IsHeaps (heaps_of n items) → x < h.vertices → y < h.vertices → k ≡ place_of h.vertices x y → v ≡ get_or items k v → IsWritten h (heaps_of n (set items k w)) x y (pair_of v) (pair_of w)
+pub written : (n : ℕ) (items : List Pair) (h : Heaps) (x y k : ℕ) (v w : Pair) → heaps_of n items ≡ h → IsHeaps (heaps_of n items) → x < h.vertices → y < h.vertices → k ≡ place_of h.vertices x y → v ≡ get_or items k v → IsWritten h (heaps_of n (set items k w)) x y v w
 written n items h x y k v w is sound x_in y_in same at =
     let as_many : h.vertices ≡ n = ap (λ (m : Heaps). m.vertices) (sym is) in
     let place : k ≡ place_of n x y = same ∙ ap (λ m. place_of m x y) as_many in
-    subst (λ (m : Heaps). IsWritten m (heaps_of n (set items k w)) x y (pair_of v) (pair_of w)) is
-    (written_to n x y k items v w sound (omega arith) (omega arith) place (let places : length (map pair_of items) ≡ n * n = sound.places in omega (arith, length-map items pair_of, place_small n x y (omega arith) (omega arith))) at)
+    subst (λ (m : Heaps). IsWritten m (heaps_of n (set items k w)) x y v w) is
+    (written_to n x y k items v w sound (omega arith) (omega arith) place (let places : length items ≡ n * n = sound in omega (arith, place_small n x y (omega arith) (omega arith))) at)
 
 -- ---- the ends of a path are vertices
 
@@ -200,31 +191,10 @@ pub from_ok : {A B E F P : Type 0} (r : Result A E) (s : Result B F) (b : B) →
 from_ok (Ok a) s b e same p = p
 from_ok (Err a) s b e same p = absurd (true≢false (sym (ap is_ok e) ∙ same))
 
--- ---- vectors that hold nothing
+-- ---- pairs that hold nothing
 
-pub none_held : (items : List (Vec PathId Global)) → All (λ v. v.items ≡ []) items → (k : ℕ) → (get_or (map pair_of items) k no_pair).held ≡ []
+pub none_held : (items : List Pair) → All (λ p. p.held ≡ []) items → (k : ℕ) → (get_or items k no_pair).held ≡ []
 none_held items none k = elim (cases_lt k (length items)) [
-  | inl inside ↦ at_place items k inside none
-  | inr past ↦ ap (λ p. p.held) (get_or_past (map pair_of items) k no_pair (omega (arith, length-map items pair_of)))
+  | inl inside ↦ none k no_pair inside
+  | inr past ↦ ap (λ (p : Pair). p.held) (get_or_past items k no_pair past)
 ]
-  where
-    at_place : (items : List (Vec PathId Global)) (k : ℕ) → k < length items → All (λ v. v.items ≡ []) items → (get_or (map pair_of items) k no_pair).held ≡ []
-    at_place [] k inside none = absurd (omega arith)
-    at_place (v ∷ items) k inside none = ap (λ p. p.held) (get_or-map pair_of (v ∷ items) k v no_pair inside) ∙ none k v inside
-
-pub sound_none : (n : ℕ) (items : List (Vec PathId Global)) → length items ≡ n * n → All (λ v. v.items ≡ []) items → IsHeaps (heaps_of n items)
-sound_none n items places none = record {
-  places = length-map items pair_of ∙ places;
-  once = λ k. subst IsOnceEach (sym (none_held items none k)) tt;
-}
-
--- ---- the vector that was
-
-pub same_pair_of : (v w : Vec PathId Global) → w.items ≡ v.items → vec_len w ≡ vec_len v → vec_capacity w ≡ vec_capacity v → pair_of w ≡ pair_of v
-same_pair_of v w items lens capacities = ap (λ (ids : List ℕ). let p : Pair = record { held = ids; spare = vec_capacity w - vec_len w } in p) items ∙ ap (λ k. let p : Pair = record { held = v.items; spare = k } in p) (omega arith)
-
-pub sound_now : (h k : Heaps) → h ≡ k → IsHeaps h → IsHeaps k
-sound_now h k same sound = subst IsHeaps same sound
-
-pub once_before : (h k : Heaps) (x y : ℕ) (p q : Pair) → IsWritten h k x y p q → IsHeaps h → IsOnceEach p.held
-once_before h k x y p q w sound = subst (λ (r : Pair). IsOnceEach r.held) w.was (sound.once (place_of h.vertices x y))

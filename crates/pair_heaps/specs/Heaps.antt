@@ -1,5 +1,5 @@
 -- The ids that are held of each pair of vertices, and when they fit an arena.
-use Rattle.std.specs.Prelude.{◌≡◌, ◌≢◌, ℕ, ◌+◌, ◌*◌, ◌≤◌, ◌⊎◌, ◌↔◌, List, [], ◌∷◌, ⊤, if◌then◌else◌, nat_lt, Some, slice_index_or, refl, Contains}
+use Rattle.std.specs.Prelude.{◌≡◌, ◌≢◌, ℕ, ◌+◌, ◌-◌, ◌*◌, ◌/◌, ◌<◌, ◌≤◌, ◌⊎◌, ◌↔◌, List, [], if◌then◌else◌, nat_lt, Some, length, slice_index, slice_index_or, refl, Contains}
 use Rattle.std.specs.Coded.{Coded, code_by, coded×, coded_ℕ, coded_list}
 use Rattle.std.specs.declared.cmp.Ordering.TheVariants.{Less}
 use Rattle.apsp_model.specs.Walk.{IsOnceEach, first, last}
@@ -43,22 +43,21 @@ IsHeld h id = (x : ℕ) × (y : ℕ) × Contains (held_at h x y) id
 abbrev pub IsBelow : Arena → ℕ → ℕ → Type 0
 IsBelow a p q = id_cmp a p q ≡ Less
 
--- no id is below one that stands before it
-abbrev pub IsArranged : Arena → List ℕ → Type 0
-IsArranged a [] = ⊤
-IsArranged a (id ∷ ids) = ((q : ℕ) → Contains ids q → IsBelow a q id → ⊥) × IsArranged a ids
+-- no entry at a place i above 0 is below the one at the place (i - 1) div 2
+abbrev pub IsHeap : Arena → List ℕ → Type 0
+IsHeap a ids = (i : ℕ) → 0 < i → i < length ids → IsBelow a (slice_index ids i) (slice_index ids ((i - 1) / 2)) → ⊥
 
 -- x and y are the ends of the path of an id
 abbrev pub HasEnds : Arena → ℕ → ℕ → ℕ → Type 0
 HasEnds a id x y = (first (list_of a id) ≡ Some x) × (last (list_of a id) ≡ Some y)
 
 -- the heaps fit the arena: it has as many vertices, each held id is live in it and has there the ends
--- of its pair, and the ids of each pair are arranged as the heaps need them
+-- of its pair, and the ids of each pair stand as a binary heap
 pub record Fits (h : Heaps) (a : Arena) : Type 0 where
   pub vertices : a.vertices ≡ h.vertices
   pub live : (x y id : ℕ) → Contains (held_at h x y) id → IsLive a id
   pub ends : (x y id : ℕ) → Contains (held_at h x y) id → HasEnds a id x y
-  pub arranged : (x y : ℕ) → IsArranged a (held_at h x y)
+  pub arranged : (x y : ℕ) → IsHeap a (held_at h x y)
 
 -- the two arenas have as many vertices, and the same live path with the same weight under each held id
 pub record AgreeOnHeld (h : Heaps) (a b : Arena) : Type 0 where

@@ -1,24 +1,27 @@
--- How the vectors of ids show the heaps. No public clause cites this module.
-use Rattle.std.specs.Prelude.{◌≡◌, ℕ, ◌-◌, ◌*◌, List, length, map, slice_index_or, Vec, vec_len, vec_capacity}
-use Rattle.std.specs.declared.alloc.Global.{Global}
+-- How the heap of one pair shows its ids. No public clause cites this module.
+use Rattle.std.specs.Prelude.{ℕ, ◌-◌, ◌≤◌, take}
 use Rattle.apsp_model.specs.Walk.{IsOnceEach}
-use Rattle.path_arena.specs.declared.id.PathId.{PathId}
-use Rattle.pair_heaps.specs.declared.heaps.Heaps.TheInside.{Inside}
-use Rattle.pair_heaps.specs.Heaps.{Pair, Heaps, no_pair}
+use Rattle.pair_heaps.specs.declared.pair.Ids.{Ids}
+use Rattle.pair_heaps.specs.declared.pair.Ids.TheVariants.{InPlace, InBlock, Grown}
+use Rattle.pair_heaps.specs.Heaps.{Pair}
 
-abbrev pub pair_of : Vec PathId Global → Pair
-pair_of v = record { held = v.items; spare = vec_capacity v - vec_len v }
+abbrev pub pair_of : Ids → Pair
+pair_of (InPlace len few) = record { held = take len few; spare = 3 - len }
+pair_of (InBlock len block) = record { held = take len block.value; spare = 8 - len }
+pair_of (Grown tall) = tall.value
 
-abbrev pub heaps_of : ℕ → List (Vec PathId Global) → Heaps
-heaps_of n items = record { vertices = n; pairs = map pair_of items }
+-- no more ids than there is room for, and none twice
+abbrev pub IsPairHeap : Ids → Type 0
+IsPairHeap (InPlace len few) = (len ≤ 3) × IsOnceEach (take len few)
+IsPairHeap (InBlock len block) = (len ≤ 8) × IsOnceEach (take len block.value)
+IsPairHeap (Grown tall) = IsOnceEach tall.value.held
 
-abbrev pub view_of : Inside → Heaps
-view_of h = heaps_of h.n h.pairs.items
+abbrev pub len_of : Ids → ℕ
+len_of (InPlace len few) = len
+len_of (InBlock len block) = len
+len_of (Grown tall) = 0
 
--- there are as many rows as vertices, each as long, and no id is held twice of a pair
-pub record IsHeaps (h : Heaps) : Type 0 where
-  pub places : length h.pairs ≡ h.vertices * h.vertices
-  pub once : (k : ℕ) → IsOnceEach (slice_index_or h.pairs k no_pair).held
-
-abbrev pub IsSound : Inside → Type 0
-IsSound h = IsHeaps (view_of h)
+abbrev pub with_len : Ids → ℕ → Ids
+with_len (InPlace len few) to = InPlace to few
+with_len (InBlock len block) to = InBlock to block
+with_len (Grown tall) to = Grown tall

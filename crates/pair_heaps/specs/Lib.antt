@@ -1,2 +1,5 @@
 pub mod Heaps
 pub mod Layout
+pub mod Rows
+pub mod Sifting
+pub mod Tall

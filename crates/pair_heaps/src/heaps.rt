@@ -1,12 +1,11 @@
 //! The heaps of all pairs.
 
-ghost use Rattle.std.specs.Prelude.{◌≡◌, ℕ, ◌+◌, ◌<◌, ◌≤◌, ◌⊎◌, ◌↔◌, [], length, OnOk, OnErr, IfOk, IfSome, IsNone, Contains};
+ghost use Rattle.std.specs.Prelude.{◌≡◌, ℕ, ◌<◌, ◌↔◌, [], length, OnOk, OnErr, IfOk, IfSome, IsNone};
 ghost use Rattle.apsp_model.specs.Walk.{IsOnceEach};
 ghost use Rattle.path_arena.specs.Arena.{Arena as Paths, IsLive};
-ghost use Rattle.pair_heaps.specs.Heaps.{Fits, HasEnds, IsArranged, IsHeld, IsInserted, IsLeastHeld, IsRemoved, IsReserved, IsWith, IsWithout, held_at, place_of, spare_at};
-ghost use Rattle.pair_heaps.specs.Layout.{pair_of};
+ghost use Rattle.pair_heaps.specs.Heaps.{Fits, HasEnds, IsHeap, IsHeld, IsInserted, IsLeastHeld, IsRemoved, IsReserved, held_at, place_of, spare_at};
 
-use crate::order::{first_not_below, place_in};
+use crate::pair::PairHeap;
 use apsp_model::Memory;
 use path_arena::{Arena, PathId};
 use std::alloc::Global;
@@ -15,13 +14,14 @@ use std::marker::Model;
 /// The held ids of each pair of vertices, each once. Contracts see them as a list per pair, in an
 /// order of this type's own, and a number of further ids for which the pair has room.
 ///
-/// The ids of a pair stand in the order of their paths, so the least is found at once. An id is put
-/// in with as many comparisons of paths as the logarithm of their number, and taken out with none.
+/// The ids of a pair are a binary heap by the order of their paths, so the least is found at once. An
+/// id is put in and taken out with as many comparisons of paths as the logarithm of their number, and
+/// is found by a look at each. A pair has room for three ids in 16 bytes of its own, then for eight.
 #[derive(Drop)]
 pub struct Heaps {
     n: u32,
     // The pair from x to y has the place x * n + y.
-    pairs: Vec<Vec<PathId>>,
+    pairs: Vec<PairHeap>,
 }
 
 impl Model for Heaps {
@@ -31,7 +31,7 @@ impl Model for Heaps {
 
     ghost coded = { heaps_code };
 
-    ghost use Rattle.pair_heaps.specs.Layout.{view_of, IsSound};
+    ghost use Rattle.pair_heaps.specs.Rows.{view_of, IsSound};
 
     ghost view = { view_of };
 
@@ -48,7 +48,7 @@ impl Heaps {
         let places = n as usize * n as usize;
         let mut pairs = Vec::with_capacity(alloc, places).map_err(|_| Memory)?;
         'rows: while pairs.len() < places {
-            pairs.push(Vec::new(alloc)).map_err(|_| Memory)?;
+            pairs.push(PairHeap::new()).map_err(|_| Memory)?;
         }
         Ok(Heaps { n, pairs })
     }
@@ -62,8 +62,9 @@ impl Heaps {
         ensures fits { (a : Paths) → Fits self.old a ↔ Fits self.new a }
     {
         let place = self.place(x, y);
-        let ids = &mut self.pairs[place];
-        ids.reserve(1).map_err(|_| Memory)
+        let alloc = *self.pairs.allocator();
+        let pair = &mut self.pairs[place];
+        pair.reserve(alloc)
     }
 
     /// Adds an id to its pair. Memory comes only where the pair has no room left, and changes nothing.
@@ -77,8 +78,9 @@ impl Heaps {
         ensures fits { Fits self.new arena.now }
     {
         let place = self.place(arena.first(id), arena.last(id));
-        let ids = &mut self.pairs[place];
-        put(ids, arena, id)
+        let alloc = *self.pairs.allocator();
+        let pair = &mut self.pairs[place];
+        pair.insert(alloc, arena, id)
     }
 
     /// Takes a held id out of its pair.
@@ -89,8 +91,8 @@ impl Heaps {
         ensures fits { Fits self.new arena.now }
     {
         let place = self.place(arena.first(id), arena.last(id));
-        let ids = &mut self.pairs[place];
-        take_out(ids, id);
+        let pair = &mut self.pairs[place];
+        pair.take_out(arena, id);
     }
 
     /// The held id of the pair that none of them is below.
@@ -100,8 +102,21 @@ impl Heaps {
         ensures least { IfSome result (IsLeastHeld self.now x y) }
         ensures none { IsNone result ↔ (held_at self.now x y ≡ []) }
     {
-        let ids = &self.pairs[self.place(x, y)];
-        ids.first().copied()
+        self.held(x, y).first().copied()
+    }
+
+    /// The heap of the pair, its held ids each once: no entry at a place i above 0 is below the one at
+    /// the place (i - 1) / 2.
+    #[inline(always)]
+    pub fn held(&self, x: u32, y: u32) -> &[PathId]
+        requires from { x < self.now.vertices }
+        requires to { y < self.now.vertices }
+        ensures held { result.now ≡ held_at self.now x y }
+        ensures once { IsOnceEach result.now }
+        ensures heap { (a : Paths) → Fits self.now a → IsHeap a result.now }
+    {
+        let pair = &self.pairs[self.place(x, y)];
+        pair.held()
     }
 
     fn place(&self, x: u32, y: u32) -> usize
@@ -112,38 +127,4 @@ impl Heaps {
     {
         x as usize * self.n as usize + y as usize
     }
-}
-
-/// Puts an id into its place among the ids of a pair.
-fn put(ids: &mut Vec<PathId>, arena: &Arena, id: PathId) -> Result<(), Memory>
-    requires live { IsLive arena.now id }
-    requires all_live { (q : ℕ) → Contains ids.old.items q → IsLive arena.now q }
-    requires arranged { IsArranged arena.now ids.old.items }
-    requires once { IsOnceEach ids.old.items }
-    requires fresh { Contains ids.old.items id → ⊥ }
-    ensures ok { OnOk result (IsWith id ids.old.items ids.new.items) }
-    ensures spare { OnOk result ((pair_of ids.old).spare ≤ (pair_of ids.new).spare + 1) }
-    ensures err { OnErr result (pair_of ids.new ≡ pair_of ids.old) }
-    ensures full { OnErr result ((pair_of ids.old).spare ≡ 0) }
-    ensures only { (q : ℕ) → Contains ids.new.items q → Contains ids.old.items q ⊎ (q ≡ id) }
-    ensures arranged { IsArranged arena.now ids.new.items }
-    ensures once { IsOnceEach ids.new.items }
-{
-    ids.reserve(1).map_err(|_| Memory)?;
-    let place = first_not_below(arena, ids, id);
-    // There is room, so it takes none.
-    let _ = ids.insert(place, id);
-    Ok(())
-}
-
-/// Takes an id out of the ids of a pair. The others stay as they were arranged.
-fn take_out(ids: &mut Vec<PathId>, id: PathId)
-    requires held { Contains ids.old.items id }
-    requires once { IsOnceEach ids.old.items }
-    ensures without { IsWithout id ids.old.items ids.new.items }
-    ensures spare { (pair_of ids.old).spare ≤ (pair_of ids.new).spare }
-    ensures arranged { (a : Paths) → IsArranged a ids.old.items → IsArranged a ids.new.items }
-{
-    let place = place_in(ids, id);
-    ids.remove(place);
 }

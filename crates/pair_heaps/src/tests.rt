@@ -1,15 +1,15 @@
-//! Forty paths of one pair, and the least of them until none is left.
+//! Paths of one pair: forty, and the least of them until none is left; three, as their heap has them.
 
 ghost use Rattle.std.specs.Prelude.{◌≡◌, OnOk};
 ghost use Rattle.pair_heaps.specs.Heaps.{Fits};
 
 use crate::Heaps;
 use apsp_model::Memory;
-use path_arena::Arena;
+use path_arena::{Arena, PathId};
 use std::test::Fail;
 
 /// One more path from 0 to 2.
-fn add(arena: &mut Arena, heaps: &mut Heaps, w: u32) -> Result<(), Memory>
+fn add(arena: &mut Arena, heaps: &mut Heaps, w: u32) -> Result<PathId, Memory>
     requires fits { Fits heaps.old arena.old }
     requires three { arena.old.vertices ≡ 3 }
     ensures fits { OnOk result (Fits heaps.new arena.new) }
@@ -18,7 +18,7 @@ fn add(arena: &mut Arena, heaps: &mut Heaps, w: u32) -> Result<(), Memory>
     let id = arena.edge(0, 2, w, 1)?;
     heaps.reserve(0, 2)?;
     heaps.insert(arena, id)?;
-    Ok(())
+    Ok(id)
 }
 
 /// The weight of the least path from 0 to 2, which is taken out.
@@ -30,6 +30,46 @@ fn take_least(arena: &Arena, heaps: &mut Heaps) -> Option<u64>
     let id = heaps.least(0, 2)?;
     heaps.remove(arena, id);
     Some(arena.weight(id))
+}
+
+/// The weight of the path at a place of the heap, which is taken out.
+fn take_at(arena: &Arena, heaps: &mut Heaps, place: usize) -> Option<u64>
+    requires fits { Fits heaps.old arena.now }
+    requires three { arena.now.vertices ≡ 3 }
+    ensures { Fits heaps.new arena.now }
+{
+    let id = *heaps.held(0, 2).get(place)?;
+    heaps.remove(arena, id);
+    Some(arena.weight(id))
+}
+
+fn least_weight(arena: &Arena, heaps: &Heaps) -> Option<u64>
+    requires fits { Fits heaps.now arena.now }
+    requires three { arena.now.vertices ≡ 3 }
+{
+    let id = heaps.least(0, 2)?;
+    Some(arena.weight(id))
+}
+
+/// Whether the least path has the least of these weights until none is left, where the paths are taken
+/// out from all places of the heap.
+fn agree(arena: &Arena, heaps: &mut Heaps, weights: &mut Vec<u64>) -> bool
+    requires fits { Fits heaps.old arena.now }
+    requires three { arena.now.vertices ≡ 3 }
+{
+    'emptying: for left in (1..41usize).rev() {
+        if least_weight(arena, heaps) != weights.iter().copied().min() {
+            return false;
+        }
+        let gone = take_at(arena, heaps, 29 % left);
+        match weights.iter().position(|w| Some(*w) == gone) {
+            Some(at) => {
+                let _ = weights.swap_remove(at);
+            }
+            None => return false,
+        }
+    }
+    weights.is_empty() && heaps.least(0, 2).is_none()
 }
 
 /// Whether the least paths have these weights until none is left.
@@ -54,11 +94,37 @@ fn forty_paths(rt: HostRuntime) -> Result<(), Fail> {
     let mut weights = Vec::new(rt.alloc());
     'filling: for k in 1..41u32 {
         let w = (13 * k % 41) / 2 + 1;
-        add(&mut arena, &mut heaps, w)?;
+        let _ = add(&mut arena, &mut heaps, w)?;
         weights.push(w)?;
     }
     weights.sort()?;
     assert!(rt; heaps.least(2, 0).is_none());
     assert!(rt; comes_out(&arena, &mut heaps, &weights));
+    Ok(())
+}
+
+#[test]
+fn forty_paths_in_another_order(rt: HostRuntime) -> Result<(), Fail> {
+    let mut arena = Arena::new(rt.alloc(), 3)?;
+    let mut heaps = Heaps::new(rt.alloc(), 3)?;
+    let mut weights = Vec::new(rt.alloc());
+    'filling: for k in 1..41u32 {
+        let w = (13 * k % 41) / 2 + 1;
+        let _ = add(&mut arena, &mut heaps, w)?;
+        weights.push(u64::from(w))?;
+    }
+    assert!(rt; agree(&arena, &mut heaps, &mut weights));
+    Ok(())
+}
+
+#[test]
+fn held_is_a_heap(rt: HostRuntime) -> Result<(), Fail> {
+    let mut arena = Arena::new(rt.alloc(), 3)?;
+    let mut heaps = Heaps::new(rt.alloc(), 3)?;
+    let least = add(&mut arena, &mut heaps, 1)?;
+    let greatest = add(&mut arena, &mut heaps, 9)?;
+    let middle = add(&mut arena, &mut heaps, 5)?;
+    // A list in the order of paths has the middle one before the greatest.
+    assert!(rt; heaps.held(0, 2) == [least, greatest, middle].as_slice());
     Ok(())
 }
