@@ -10,8 +10,11 @@ A case is a folder with
     fault       `read K`: reading fails behind the first K bytes; `write K`: writing fails behind them
 The scripts of examples are cases too: examples/NAME.txt with NAME.out, run with the words in NAME.words, if any.
 users.py has further checks, of the wrapper, the documents, the clients and the examples.
+The certificate that each script leads to is checked by the program itself and by a second checker, and both are tried
+on a small certificate with each byte changed.
 """
 
+import certificates
 import os
 import pty
 import resource
@@ -20,6 +23,7 @@ import subprocess
 import sys
 import tempfile
 import tty
+from concurrent.futures import ThreadPoolExecutor
 
 import users
 
@@ -95,6 +99,34 @@ def cases():
                    read(folder, name + ".out"), int(read(folder, name + ".status", b"0")), [])
 
 
+def certificates_of_scripts():
+    """The name of each case that is a script, and the certificate of the version that it ends with."""
+    for name, words, data, _, status, fault in cases():
+        if words and words[0] != "run" or status > 1 or fault:
+            continue
+        output, _ = run(words, data + b"\ncert\n", [])
+        found = output.rfind(b"apsp certificate 1\n")
+        if found >= 0:
+            yield name, output[found:]
+
+
+def check_certificates():
+    """Whether each certificate is lawful, and its mutants are judged as the second checker judges them."""
+    texts = []
+    for name, text in certificates_of_scripts():
+        texts.append(("the certificate of " + name, text))
+        if not certificates.judge(text)[0].startswith(b"certificate yes"):
+            yield f"the certificate of {name}: it is not lawful\n  {short(text)}"
+    with open(os.path.join(TOP, "examples", "certificate-check.txt"), "rb") as file:
+        texts += [("a changed certificate", text) for text in certificates.mutants(file.read())]
+    with ThreadPoolExecutor(4) as pool:
+        answers = list(pool.map(lambda item: run(["check"], item[1], []), texts))
+    for (name, text), answer in zip(texts, answers):
+        if answer != certificates.judge(text):
+            yield f"{name}: wanted {certificates.judge(text)}, got {answer}\n  {short(text)}"
+    print(f"{len(texts)} certificates checked")
+
+
 def short(data):
     return repr(data) if len(data) <= 600 else f"{data[:600]!r}... ({len(data)} bytes)"
 
@@ -120,6 +152,14 @@ def main():
         print(f"{name}: words {words}\n  wanted {status} {short(expected)}\n  got    {end} {short(got)}")
     more, missed = users.checks(PROGRAM, wanted)
     passed, failed = passed + more, failed + missed
+    if not wanted or "certificates" in wanted:
+        faults = list(check_certificates())
+        for fault in faults:
+            print(fault)
+        if faults:
+            failed += 1
+        else:
+            passed += 1
     print(f"{passed} passed, {failed} failed")
     return 1 if failed or not passed else 0
 

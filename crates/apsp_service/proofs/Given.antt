@@ -1,5 +1,5 @@
 -- What the sink got, call by call.
-use Rattle.std.proofs.Common.{◌≡◌, ℕ, ◌≤◌, List, [], ◌∷◌, ◌++◌, take, drop, refl, sym, ap, subst, ◌∙◌, arith, append_assoc, append-nil}
+use Rattle.std.proofs.Common.{◌≡◌, ℕ, ◌≤◌, List, [], ◌∷◌, ◌++◌, length, take, drop, refl, sym, ap, subst, ◌∙◌, arith, append_assoc, append-nil}
 use Rattle.std.specs.Prelude.{Option, Some, None, Result, Ok, Err, OnOk, IsErrAnd}
 use Rattle.std.specs.Io.KnownBytes.{Appends}
 use Rattle.std.proofs.lemmas.List.{take-append-drop}
@@ -7,10 +7,20 @@ use Rattle.apsp_io.specs.Streams.{Rose}
 use Rattle.script_reader.specs.Meaning.{line_of}
 use Rattle.script_reader.specs.Refused.{Refusal}
 use Rattle.script_reader.specs.declared.Line.{Line}
+use Rattle.apsp_model.specs.Stated.{Stated}
+use Rattle.apsp_io.specs.declared.sink.GiveError.{GiveError}
+use Rattle.apsp_io.specs.declared.sink.GiveError.TheVariants as give
+use Rattle.version_face.specs.Seen.{Seen}
+use Rattle.history_engine.specs.Seen.{Seen as Engine}
+use Rattle.certificate.specs.Grammar.{text_of}
+use Rattle.certificate.specs.Giving.{IsStatedOf, GivesText}
+use Rattle.apsp_service.specs.Certificate.{IsTextOf, version_of}
 use Rattle.apsp_service.specs.declared.stop.Stop.{Stop}
 use Rattle.apsp_service.specs.declared.stop.Stop.TheVariants as stop
-use Rattle.apsp_service.specs.Session.{State, HasAnswer, LineHasReply, HasReply, HaveReplies, context_of, after_lines}
-use Rattle.apsp_service.specs.Giving.{Gave, GaveFront, StopsAmong, GivingEnds, TextGiven, GrowsBy}
+use Rattle.script_reader.specs.declared.Line.TheVariants as line
+use Rattle.apsp_io.specs.Streams.{GrowsByPrefix}
+use Rattle.apsp_service.specs.Session.{State, HasAnswer, LineHasReply, HasReply, HaveReplies, context_of, counted, after_read, after_line, after_lines}
+use Rattle.apsp_service.specs.Giving.{Gave, GaveFront, StopsAmong, GivingEnds, TextGiven, LinesGiven, CertificateGiven, GrowsBy, as_stop}
 use Rattle.apsp_service.proofs.Replied.{replies_append, one_reply, front_of_more, front_behind, front_none}
 
 pub appends_nothing : (old : Option (List ℕ)) → Appends old old []
@@ -36,16 +46,47 @@ line_replied (Ok u) s content l old new reading none h =
     let G : Result Line Refusal → Type 0 = λ read. HasAnswer s read new in
     subst G (sym reading) (subst F reply_is h.1)
 
+front_given : (old new : Option (List ℕ)) (s : State) (content text : List ℕ) → LineHasReply s content text → GrowsByPrefix old new text → GaveFront old new s (content ∷ [])
+front_given old new s content text reply given =
+    let k = given.0 in
+    let whole : text ≡ take k text ++ drop k text = sym (take-append-drop k text) in
+    let F : List ℕ → Type 0 = λ t. HaveReplies s (content ∷ []) t in
+    (take k text, (drop k text, subst F whole (one_reply s content text reply)), given.2)
+
 pub text_gives : (r : Result (Unit {0}) Stop) (old new : Option (List ℕ)) (before now : ℕ) (s : State) (content text : List ℕ) → LineHasReply s content text → TextGiven r old new before now text → GivingEnds r old new before now s (content ∷ [])
 text_gives (Ok u) old new before now s content text reply given = (text, one_reply s content text reply, given)
 text_gives (Err stop.Source) old new before now s content text reply given = given
-text_gives (Err stop.Sink) old new before now s content text reply given =
-    let k = given.0.0 in
-    let whole : text ≡ take k text ++ drop k text = sym (take-append-drop k text) in
-    let F : List ℕ → Type 0 = λ t. HaveReplies s (content ∷ []) t in
-    ((take k text, (drop k text, subst F whole (one_reply s content text reply)), given.0.2), given.1)
+text_gives (Err stop.Sink) old new before now s content text reply given = (front_given old new s content text reply given.0, given.1)
 text_gives (Err stop.Memory) old new before now s content text reply given = ([], front_none s (content ∷ []), given)
 text_gives (Err stop.Limit) old new before now s content text reply given = given
+
+lines_give : (r : Result (Unit {0}) Stop) (old new : Option (List ℕ)) (before now : ℕ) (s : State) (content text : List ℕ) → LineHasReply s content text → LinesGiven r old new before now text → GivingEnds r old new before now s (content ∷ [])
+lines_give (Ok u) old new before now s content text reply given = (text, one_reply s content text reply, given)
+lines_give (Err stop.Source) old new before now s content text reply given = given
+lines_give (Err stop.Sink) old new before now s content text reply given = (front_given old new s content text reply given.0, given.1)
+lines_give (Err stop.Memory) old new before now s content text reply given = front_given old new s content text reply given
+lines_give (Err stop.Limit) old new before now s content text reply given = given
+
+-- the certificate of the state that the line leaves is the reply to the line
+pub certificate_gives : (r : Result (Unit {0}) Stop) (old new : Option (List ℕ)) (before now : ℕ) (s : State) (content : List ℕ) → line_of (context_of s) content ≡ Ok line.Cert → CertificateGiven r old new before now (after_line s content) → GivingEnds r old new before now s (content ∷ [])
+certificate_gives r old new before now s content reading given =
+    let F : Result Line Refusal → Type 0 = λ read. CertificateGiven r old new before now (after_read s read) in
+    let here : CertificateGiven r old new before now (counted s) = subst F reading given in
+    let G : Result Line Refusal → Type 0 = λ read. HasAnswer s read here.0 in
+    lines_give r old new before now s content here.0 (subst G (sym reading) here.1) here.2
+
+-- the certificate of a version was written
+pub certificate_written : (r : Result (Unit {0}) Stop) (g : Result (Unit {0}) GiveError) (v : Seen) (e : Engine) (old new : Option (List ℕ)) (before now : ℕ) → r ≡ as_stop g → v.graph ≡ e.graph → v.number ≡ length e.vertices → (s : Stated) × IsStatedOf v s × GivesText g old new before now (text_of s) → (text : List ℕ) × IsTextOf (version_of e) text × LinesGiven r old new before now text
+certificate_written r g v e old new before now stopped graph number written =
+    let same : v ≡ version_of e = λ i. record { number = number i; graph = graph i } in
+    let F : Seen → Type 0 = λ w. IsStatedOf w written.0 in
+    let G : Result (Unit {0}) Stop → Type 0 = λ z. LinesGiven z old new before now (text_of written.0) in
+    (text_of written.0, (written.0, subst F same written.1, refl), subst G (sym stopped) (at g written.2))
+  where
+    at : (h : Result (Unit {0}) GiveError) → GivesText h old new before now (text_of written.0) → LinesGiven (as_stop h) old new before now (text_of written.0)
+    at (Ok u) w = w
+    at (Err give.Failed) w = w
+    at (Err give.Memory) w = w
 
 -- ---- what a `?` passes on
 

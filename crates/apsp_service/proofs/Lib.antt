@@ -1,5 +1,6 @@
 pub mod Lines
 pub mod Replied
+pub mod Checked
 pub mod OneText
 pub mod Texts
 pub mod LineReads
@@ -8,3 +9,4 @@ pub mod Standing
 pub mod Taken
 pub mod Ran
 pub mod Outcomes
+pub mod Checking

@@ -19,6 +19,10 @@ use Rattle.apsp_service.specs.Age.{IsBirth}
 use Rattle.apsp_service.specs.Distance.{IsDistance, AreDistances}
 use Rattle.apsp_service.specs.Replies.{dist_text, row_text, path_text, stats_text, age_text}
 use Rattle.apsp_service.specs.Session.{State, HasReply, HasAnswer, HaveReplies, HasOneText, opening, after_line, after_lines, context_of, status_of}
+use Rattle.certificate.specs.Grammar.{text_of}
+use Rattle.certificate.proofs.VersionLaws.{one_stated_of}
+use Rattle.apsp_service.specs.Certificate.{version_after}
+use Rattle.apsp_service.proofs.Checked.{checked_exists, one_checked}
 use Rattle.apsp_service.proofs.Replied.{replies_exist}
 
 -- ---- distances and walks
@@ -78,6 +82,7 @@ one_reply n smooth commands (line.Path x y) t u h k = h.2 ∙ ap (λ p. path_tex
 one_reply n smooth commands (line.Row x) t u h k = h.2 ∙ ap (λ row. row_text x row) (one_row (graph_of n commands) x h.0 k.0 h.1 k.1) ∙ sym k.2
 one_reply n smooth commands line.Stats t u h k = h.2 ∙ ap stats_text (counts_unique n smooth commands h.0 k.0 h.1 k.1) ∙ sym k.2
 one_reply n smooth commands (line.Age list) t u h k = h.2 ∙ ap (λ b. age_text list b) (one_birth n smooth commands list h.0 k.0 h.1 k.1) ∙ sym k.2
+one_reply n smooth commands line.Cert t u h k = h.2 ∙ ap text_of (one_stated_of (version_after n commands) h.0 k.0 h.1 k.1) ∙ sym k.2
 
 one_answer : (s : State) (read : Result Line Refusal) (t u : List ℕ) → HasAnswer s read t → HasAnswer s read u → t ≡ u
 one_answer s (Ok l) t u h k = one_reply s.vertices s.smooth s.commands l t u h k
@@ -102,3 +107,6 @@ one_text (mode.Run workers smooth) bytes = record {
   where
     text : (t : List ℕ) × HaveReplies (opening smooth) (lines_of bytes) t
     text = replies_exist (opening smooth) (lines_of bytes)
+one_text mode.Check bytes =
+    let c = checked_exists bytes in
+    record { text = c.0; status = c.1; session = c.2; only = λ other ended h. one_checked bytes other c.0 ended c.1 h c.2 }

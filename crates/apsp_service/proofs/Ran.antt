@@ -32,7 +32,7 @@ consumes_both (Some us) None c xs ys h k = absurd h
 consumes_both (Some us) (Some vs) None xs ys h k = absurd k
 consumes_both (Some us) (Some vs) (Some ws) xs ys h k = h ∙ ap (λ z. xs ++ z) k ∙ sym (append_assoc xs ys ws)
 
-consumes_kept : (a b c : Option (List ℕ)) (xs : List ℕ) → Consumes a b xs → Keeps b c → Consumes a c xs
+pub consumes_kept : (a b c : Option (List ℕ)) (xs : List ℕ) → Consumes a b xs → Keeps b c → Consumes a c xs
 consumes_kept None b c xs h k = tt
 consumes_kept (Some us) None c xs h k = absurd h
 consumes_kept (Some us) (Some vs) None xs h k = absurd k

@@ -10,6 +10,9 @@ use Rattle.apsp_model.specs.Walk.{weight_of}
 use Rattle.apsp_model.proofs.Exists.{least_or_none, least_is_some_option}
 use Rattle.history_engine.proofs.Existing.{counts_exist, birth_exists}
 use Rattle.apsp_service.specs.Age.{IsAgeReply}
+use Rattle.certificate.specs.Grammar.{text_of}
+use Rattle.certificate.proofs.Versions.{value_of, value_is}
+use Rattle.apsp_service.specs.Certificate.{version_after}
 use Rattle.apsp_service.specs.Distance.{IsDistance}
 use Rattle.apsp_service.specs.Replies.{dist_text, row_text, path_text, stats_text, age_text, error_text}
 use Rattle.script_reader.specs.Meaning.{line_of}
@@ -74,6 +77,7 @@ reply_exists n smooth commands (line.Row x) =
     (row_text x r.0, (r.0, record { size = r.1.size; each = r.1.each }, refl))
 reply_exists n smooth commands line.Stats = let c = counts_exist n smooth commands in (stats_text c.0, (c.0, c.1, refl))
 reply_exists n smooth commands (line.Age list) = age_exists n smooth commands list
+reply_exists n smooth commands line.Cert = let v = version_after n commands in (text_of (value_of v), (value_of v, value_is v, refl))
 
 answer_exists : (s : State) (read : Result Line Refusal) → (text : List ℕ) × HasAnswer s read text
 answer_exists s (Ok l) = reply_exists s.vertices s.smooth s.commands l

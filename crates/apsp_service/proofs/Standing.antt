@@ -12,9 +12,12 @@ use Rattle.script_reader.specs.Meaning.{line_of}
 use Rattle.script_reader.specs.Refused.{Refusal}
 use Rattle.script_reader.specs.declared.Line.{Line}
 use Rattle.script_reader.specs.declared.Line.TheVariants as line
+use Rattle.version_face.specs.Seen.{Seen as Version}
+use Rattle.apsp_service.specs.declared.stop.Stop.{Stop}
+use Rattle.apsp_service.specs.Certificate.{version_of, version_after, IsTextOf}
 use Rattle.apsp_service.specs.Session.{State, context_of, present_graph, star_with, accepted, counted, updated, after_read, after_line}
 use Rattle.apsp_service.specs.declared.session.Session.{Session}
-use Rattle.apsp_service.specs.Giving.{HasNetwork, IsNetworkOf, IsReady, GrowsBy}
+use Rattle.apsp_service.specs.Giving.{HasNetwork, IsNetworkOf, IsReady, GrowsBy, LinesGiven, CertificateGiven}
 use Rattle.apsp_service.specs.Standing.{HasState}
 
 -- the state of a session does not hang on the line that is begun
@@ -45,6 +48,7 @@ accepted_keeps s (line.Path x y) = kept_all s
 accepted_keeps s (line.Row x) = kept_all s
 accepted_keeps s line.Stats = kept_all s
 accepted_keeps s (line.Age list) = kept_all s
+accepted_keeps s line.Cert = kept_all s
 
 pub line_stands : {E : Type 0} (r : Result (Unit {0}) E) (s : State) (content : List ℕ) (l : Line) (session : Session) → line_of (context_of s) content ≡ Ok l → OnOk r (HasNetwork session.network (accepted (counted s) l)) → session.smooth ≡ s.smooth → session.lines ≡ s.lines + 1 → session.refused ≡ s.refused → OnOk r (HasState session (after_line s content))
 line_stands (Err e) s content l session reading h smooth lines refused = tt
@@ -66,6 +70,17 @@ advanced (Ok u) before after s star h a = record {
 -- the graph that the network has
 graph_is : (e : Seen) (s : State) → IsNetworkOf e s → e.graph ≡ graph_of s.vertices s.commands
 graph_is e s h = h.stands.outline.graph ∙ ap (λ n. graph_of n s.commands) (sym h.vertices)
+
+-- the version that the network has
+pub version_is : (e : Seen) (s : State) → IsNetworkOf e s → version_of e ≡ version_after s.vertices s.commands
+version_is e s h = λ i. record { number = length (h.stands.outline.vertices i); graph = graph_is e s h i }
+
+-- its certificate is that of the state's version
+pub certificate_stands : (r : Result (Unit {0}) Stop) (seen : Option Seen) (e : Seen) (s : State) (old new : Option (List ℕ)) (before now : ℕ) → seen ≡ Some e → HasNetwork seen s → (text : List ℕ) × IsTextOf (version_of e) text × LinesGiven r old new before now text → CertificateGiven r old new before now s
+certificate_stands r seen e s old new before now is has given =
+    let F : Option Seen → Type 0 = λ o. HasNetwork o s in
+    let G : Version → Type 0 = λ v. (text : List ℕ) × IsTextOf v text × LinesGiven r old new before now text in
+    subst G (version_is e s (subst F is has)) given
 
 -- an update of one edge was made
 pub edge_advanced : {E : Type 0} (r : Result (Unit {0}) E) (before after : Seen) (s : State) (u v : ℕ) (w : Option ℕ) → IsNetworkOf before s → OnOk r (Advance before (Update (star_with before.graph u v w)) after) → OnOk r (IsNetworkOf after (updated (counted s) (star_with (present_graph (counted s)) u v w)))

@@ -2,9 +2,16 @@
 use Rattle.std.specs.Prelude.{◌≡◌, ℕ, ◌<◌, ◌≤◌, ◌^◌, ⊤, List, [], ◌++◌, length, false, Option, Some, None, Result, Ok, Err}
 use Rattle.std.specs.Io.KnownBytes.{Appends}
 use Rattle.apsp_io.specs.Streams.{Rose, GrowsByPrefix}
+use Rattle.apsp_io.specs.declared.sink.GiveError.{GiveError}
+use Rattle.apsp_io.specs.declared.sink.GiveError.TheVariants as give
 use Rattle.history_engine.specs.Seen.{Seen}
 use Rattle.history_engine.specs.Advance.{Stands}
-use Rattle.apsp_service.specs.Session.{State, HaveReplies}
+use Rattle.script_reader.specs.Meaning.{line_of}
+use Rattle.script_reader.specs.declared.Line.TheVariants as line
+use Rattle.apsp_service.specs.Certificate.{IsCertReply}
+use Rattle.apsp_service.specs.Session.{State, context_of, LineHasReply, HaveReplies}
+use Rattle.apsp_service.specs.declared.session.Reply.{Reply}
+use Rattle.apsp_service.specs.declared.session.Reply.TheVariants as reply
 use Rattle.apsp_service.specs.declared.stop.Stop.{Stop}
 use Rattle.apsp_service.specs.declared.stop.Stop.TheVariants as stop
 
@@ -39,6 +46,30 @@ TextGiven (Err stop.Source) old new before now text = ⊥
 TextGiven (Err stop.Sink) old new before now text = GrowsByPrefix old new text × Rose before now
 TextGiven (Err stop.Memory) old new before now text = Appends old new []
 TextGiven (Err stop.Limit) old new before now text = ⊥
+
+-- a sink's answer, as that of a session
+abbrev pub as_stop : Result (Unit {0}) GiveError → Result (Unit {0}) Stop
+as_stop (Ok u) = Ok u
+as_stop (Err give.Failed) = Err stop.Sink
+as_stop (Err give.Memory) = Err stop.Memory
+
+-- a text was given, line by line, or a front of it
+abbrev pub LinesGiven : {A : Type 0} → Result A Stop → Option (List ℕ) → Option (List ℕ) → ℕ → ℕ → List ℕ → Type 0
+LinesGiven (Ok a) old new before now text = Appends old new text
+LinesGiven (Err stop.Source) old new before now text = ⊥
+LinesGiven (Err stop.Sink) old new before now text = GrowsByPrefix old new text × Rose before now
+LinesGiven (Err stop.Memory) old new before now text = GrowsByPrefix old new text
+LinesGiven (Err stop.Limit) old new before now text = ⊥
+
+-- the certificate of the state's version was given, or a front of it
+abbrev pub CertificateGiven : {A : Type 0} → Result A Stop → Option (List ℕ) → Option (List ℕ) → ℕ → ℕ → State → Type 0
+CertificateGiven result old new before now s =
+    (text : List ℕ) × IsCertReply s.vertices s.commands text × LinesGiven result old new before now text
+
+-- the reply to a line is this text, or it is a certificate
+abbrev pub IsRepliedBy : Reply → State → List ℕ → List ℕ → Type 0
+IsRepliedBy reply.Text s content text = LineHasReply s content text
+IsRepliedBy reply.Certificate s content text = line_of (context_of s) content ≡ Ok line.Cert
 
 -- the engine behind the session stands for the commands, of which there are no more than lines; before the
 -- line `vertices` there is none

@@ -2,6 +2,8 @@ pub mod Distance
 pub mod Path
 pub mod Stats
 pub mod Age
+pub mod Certificate
+pub mod Check
 pub mod Replies
 pub mod Begun
 pub mod Words
@@ -11,3 +13,4 @@ pub mod Standing
 pub mod Running
 pub mod NetworkInside
 pub mod Outcome
+pub mod Ending

@@ -16,6 +16,8 @@ use Rattle.apsp_service.specs.Distance.{IsDistReply, IsRowReply}
 use Rattle.apsp_service.specs.Path.{IsPathReply}
 use Rattle.apsp_service.specs.Stats.{IsStatsReply}
 use Rattle.apsp_service.specs.Age.{IsAgeReply}
+use Rattle.apsp_service.specs.Certificate.{IsCertReply}
+use Rattle.apsp_service.specs.Check.{IsChecked}
 use Rattle.apsp_service.specs.Replies.{error_text}
 
 -- after some lines: the number of vertices, 0 before the line `vertices`; whether smoothing is on; the
@@ -71,6 +73,7 @@ HasReply n smooth commands (line.Path x y) text = IsPathReply (graph_of n comman
 HasReply n smooth commands (line.Row x) text = IsRowReply (graph_of n commands) x text
 HasReply n smooth commands line.Stats text = IsStatsReply n smooth commands text
 HasReply n smooth commands (line.Age list) text = IsAgeReply n smooth commands list text
+HasReply n smooth commands line.Cert text = IsCertReply n commands text
 HasReply n smooth commands _ text = text ≡ []
 
 abbrev pub HasAnswer : State → Result Line Refusal → List ℕ → Type 0
@@ -95,7 +98,9 @@ status_of s = if s.refused then 1 else 0
 
 -- an input of these bytes has this text and this status
 abbrev pub Session : Mode → List ℕ → List ℕ → ℕ → Type 0
-Session (mode.Run workers smooth) bytes text status = HaveReplies (opening smooth) (lines_of bytes) text × (status ≡ status_of (after_lines (opening smooth) (lines_of bytes)))
+Session (mode.Run workers smooth) bytes text status =
+    HaveReplies (opening smooth) (lines_of bytes) text × (status ≡ status_of (after_lines (opening smooth) (lines_of bytes)))
+Session mode.Check bytes text status = IsChecked bytes text status
 
 -- there is a text and a status that the session has for these bytes, and no other
 pub record HasOneText (mode : Mode) (bytes : List ℕ) : Type 0 where
@@ -104,6 +109,7 @@ pub record HasOneText (mode : Mode) (bytes : List ℕ) : Type 0 where
   pub session : Session mode bytes text status
   pub only : (other : List ℕ) (ended : ℕ) → Session mode bytes other ended → (other ≡ text) × (ended ≡ status)
 
--- the replies to whole lines alone
+-- the replies to whole lines alone; the mode that checks has none before the end of the input
 abbrev pub HasWholeReplies : Mode → List ℕ → List ℕ → Type 0
 HasWholeReplies (mode.Run workers smooth) bytes text = HaveReplies (opening smooth) (whole_lines bytes) text
+HasWholeReplies mode.Check bytes text = text ≡ []

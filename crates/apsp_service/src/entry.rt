@@ -1,9 +1,12 @@
-ghost use Rattle.std.specs.Prelude.{◌≡◌, ◌⊎◌, ◌↔◌, ◌+◌, ◌≤◌, List, ℕ, length, map, None, IfSome, IsSome, string_bytes};
+ghost use Rattle.std.specs.Prelude.{◌≡◌, ◌⊎◌, ◌↔◌, ◌+◌, ◌≤◌, List, [], ℕ, length, map, None, IfSome, IsSome, string_bytes};
 ghost use Rattle.apsp_service.specs.Words.{HasWorkers, mode_of};
+ghost use Rattle.std.specs.Io.KnownBytes.{Appends};
 ghost use Rattle.apsp_io.specs.Streams.{Rose};
 ghost use Rattle.apsp_service.specs.Session.{Session};
-ghost use Rattle.apsp_service.specs.Outcome.{status_after, ReadToEnd, IsStatus, IsAnswered, IsStoppedEarly, IsCutShort, IsComplete, TookMoreThan, TookAtMost, SaysTooMuch, SaysRefused};
+ghost use Rattle.apsp_service.specs.Outcome.{status_after, ReadToEnd, IsStatus, IsAnswered, IsStoppedEarly, IsCutShort, IsComplete, IsCheck, TookMoreThan, TookAtMost, SaysTooMuch, SaysRefused};
+ghost use Rattle.apsp_service.specs.Ending.{EndsAs};
 
+use crate::check::check_input;
 use crate::crew::Crew;
 use crate::run::{MOST_INPUT, run};
 use crate::stop::Stop;
@@ -14,10 +17,11 @@ use std::marker::Sync;
 use std::sync::Wait;
 use std::thread::Threads;
 
-/// Runs a script: takes its lines from the source and gives the sink a reply to each line that has
-/// one, as soon as the line is whole. It waits for nobody and returns.
+/// Runs a mode. A script's lines are taken from the source, and the sink is given a reply to each line
+/// that has one, as soon as the line is whole; the mode that checks takes the whole input and gives one
+/// line. It waits for nobody and returns.
 ///
-/// The status is 0 where the input was read to its end and no line was refused, and 1 where one
+/// The status is 0 where the input was read to its end and nothing was refused, and 1 where something
 /// was. It is 3 or 4 where the source or the sink failed, 5 where memory ran out, and 6 where the
 /// input has more than `MOST_INPUT` bytes.
 pub fn script<S: Source, K: Sink, G: Gate, R: Threads + Sync>(
@@ -47,16 +51,36 @@ pub fn script<S: Source, K: Sink, G: Gate, R: Threads + Sync>(
     // What was written by a run that ended early.
     ensures stopped_early { (result ≡ 3) ⊎ (result ≡ 6) → IsStoppedEarly mode.now (S.left source.old) (S.left source.new) (K.held sink.old) (K.held sink.new) }
     ensures cut_short { (result ≡ 4) ⊎ (result ≡ 5) → IfSome (S.left source.old) (λ input. IsCutShort mode.now input (K.held sink.old) (K.held sink.new)) }
+    ensures nothing_written { IsCheck mode.now → (result ≡ 3) ⊎ ((result ≡ 5) ⊎ (result ≡ 6)) → Appends (K.held sink.old) (K.held sink.new) [] }
 
     ensures takes { TookAtMost (MOST_INPUT + 1) (S.left source.old) (S.left source.new) }
+    ensures source_later { S.faults source.old ≤ S.faults source.new }
+    ensures sink_later { K.faults sink.old ≤ K.faults sink.new }
+{
+    status(run_as(rt, alloc, mode, source, sink, gate))
+}
+
+/// Runs a mode, and says whether something was refused.
+fn run_as<S: Source, K: Sink, G: Gate, R: Threads + Sync>(
+    rt: &R,
+    alloc: Global,
+    mode: &Mode,
+    source: &mut S,
+    sink: &mut K,
+    gate: &G,
+) -> Result<bool, Stop>
+    requires workers { HasWorkers mode.now }
+    ensures ends { EndsAs mode.now result (S.left source.old) (S.left source.new) (K.held sink.old) (K.held sink.new)
+        (S.faults source.old) (S.faults source.new) (K.faults sink.old) (K.faults sink.new) }
     ensures source_later { S.faults source.old ≤ S.faults source.new }
     ensures sink_later { K.faults sink.old ≤ K.faults sink.new }
 {
     match mode {
         Mode::Run { workers, smooth } => {
             let crew = Crew::new(rt, *workers, gate);
-            status(run(alloc, &crew, *smooth, source, sink))
+            run(alloc, &crew, *smooth, source, sink)
         }
+        Mode::Check => check_input(alloc, source, sink),
     }
 }
 
@@ -97,6 +121,8 @@ pub fn top<S: Source, K: Sink, G: Gate, R: Threads + Wait + Sync>(
         → IsStoppedEarly mode (S.left source.old) (S.left source.new) (K.held sink.old) (K.held sink.new)) }
     ensures cut_short { IfSome (mode_of (map string_bytes words.now)) (λ mode. (result ≡ 4) ⊎ (result ≡ 5)
         → IfSome (S.left source.old) (λ input. IsCutShort mode input (K.held sink.old) (K.held sink.new))) }
+    ensures nothing_written { IfSome (mode_of (map string_bytes words.now)) (λ mode. IsCheck mode → (result ≡ 3) ⊎ ((result ≡ 5) ⊎ (result ≡ 6))
+        → Appends (K.held sink.old) (K.held sink.new) []) }
 
     ensures takes { TookAtMost (MOST_INPUT + 1) (S.left source.old) (S.left source.new) }
     ensures source_later { S.faults source.old ≤ S.faults source.new }

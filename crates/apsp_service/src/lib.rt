@@ -2,6 +2,7 @@
 //! program does.
 #![tactic(auto)]
 
+mod check;
 mod crew;
 mod entry;
 pub mod laws;

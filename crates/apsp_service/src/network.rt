@@ -11,7 +11,8 @@ ghost use Rattle.graph_store.specs.Edges.{IsWeight};
 ghost use Rattle.history_engine.specs.Advance.{Advance, Stands};
 ghost use Rattle.apsp_service.specs.Age.{IsAgeReply};
 ghost use Rattle.apsp_service.specs.Distance.{IsDistance, AreDistances, IsDistReply, IsRowReply};
-ghost use Rattle.apsp_service.specs.Giving.{GrowsBy};
+ghost use Rattle.apsp_service.specs.Certificate.{IsTextOf, version_of};
+ghost use Rattle.apsp_service.specs.Giving.{GrowsBy, LinesGiven};
 ghost use Rattle.apsp_service.specs.Path.{IsPathReply};
 ghost use Rattle.apsp_service.specs.Replies.{entry_text, walk_text};
 ghost use Rattle.apsp_service.specs.Session.{star_with};
@@ -19,20 +20,24 @@ ghost use Rattle.apsp_service.specs.Stats.{IsStatsReply};
 
 use crate::crew::Crew;
 use crate::replies::{put_age, put_dist, put_entry, put_stats, put_walk};
-use apsp_io::Gate;
+use crate::stop::{Stop, given};
+use apsp_io::{Gate, Sink};
+use certificate::write_certificate;
 use graph_store::Star;
 use history_engine::Engine;
 use std::alloc::{AllocError, Global};
 use std::fmt::Write;
 use std::marker::{Model, Sync};
 use std::thread::Threads;
+use version_face::Version;
 
-/// The engine, with room for the star that `edge` and `cut` make, so that they take no memory for
-/// it. After want of memory in an update it is used no more.
+/// The engine, with room for the star that `edge` and `cut` make and for the version that `cert` writes,
+/// so that they take no memory for them. After want of memory in an update it is used no more.
 #[derive(Drop)]
 pub struct Network {
     engine: Engine,
     star: Star,
+    version: Version,
 }
 
 impl Model for Network {
@@ -59,6 +64,7 @@ impl Network {
         Ok(Network {
             engine: Engine::new(alloc, vertices, smooth).map_err(|_| AllocError)?,
             star: Star::new(alloc, vertices, 0).map_err(|_| AllocError)?,
+            version: Version::new(alloc, vertices).map_err(|_| AllocError)?,
         })
     }
 
@@ -192,5 +198,21 @@ impl Network {
         ensures { (commands : List Command) → Stands self.now commands → OnOk result (GrowsBy (IsAgeReply self.now.opening self.now.smooth commands list.now) (string_bytes text.old) (string_bytes text.new)) }
     {
         put_age(text, list, self.engine.birth(list))
+    }
+
+    /// Gives the sink the certificate of the present graph and number of updates, line by line. It takes
+    /// no memory of its own, and O(n²) looks.
+    pub fn give_certificate<K: Sink>(&mut self, sink: &mut K) -> Result<(), Stop>
+        requires not_spent { self.old.spent ≡ false }
+        requires few { length self.old.vertices < 2 ^ 40 }
+        ensures gives { (text : List ℕ) × IsTextOf (version_of self.old) text
+            × LinesGiven result (K.held sink.old) (K.held sink.new) (K.faults sink.old) (K.faults sink.new) text }
+        ensures same { self.new ≡ self.old }
+        ensures later { K.faults sink.old ≤ K.faults sink.new }
+    {
+        // The graph has as many vertices as the version.
+        let _graph = self.engine.graph();
+        self.engine.fill(&mut self.version);
+        given(write_certificate(&self.version, sink))
     }
 }

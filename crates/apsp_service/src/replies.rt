@@ -4,8 +4,10 @@ ghost use Rattle.std.specs.Prelude.{◌≡◌, ◌++◌, OnOk, codes, string_byt
 ghost use Rattle.std.specs.List.{flat_map};
 ghost use Rattle.path_arena.specs.Arena.{list_of, weight_of};
 ghost use Rattle.history_engine.specs.Answers.{numbers};
+ghost use Rattle.apsp_service.specs.Check.{reason_text, verdict_text, fault_text};
 ghost use Rattle.apsp_service.specs.Replies.{number_text, entry_text, dist_text, stats_text, birth_text, age_text, error_text};
 
+use cert_check::{Reason, Verdict};
 use history_engine::{Counts, Least};
 use std::alloc::AllocError;
 use std::fmt::Write;
@@ -56,6 +58,37 @@ pub fn put_error(text: &mut String, line: u32, code: u32, place: u32) -> Result<
     ensures { OnOk result (string_bytes text.new ≡ string_bytes text.old ++ error_text line code place) }
 {
     write!(text, "line {line} error {code} at {place}\n")
+}
+
+/// What is said of a certificate.
+pub fn put_verdict(text: &mut String, verdict: Verdict) -> Result<(), AllocError>
+    ensures { OnOk result (string_bytes text.new ≡ string_bytes text.old ++ verdict_text verdict) }
+{
+    match verdict {
+        Verdict::Yes(number) => write!(text, "certificate yes {number}\n"),
+        Verdict::No { x, y, reason } => {
+            write!(text, "certificate no {x} {y} {}\n", reason_word(reason))
+        }
+    }
+}
+
+/// What is said of a text that is no certificate: the test that its first line at fault fails, and the
+/// number of that line.
+pub fn put_fault(text: &mut String, code: u32, line: u32) -> Result<(), AllocError>
+    ensures { OnOk result (string_bytes text.new ≡ string_bytes text.old ++ fault_text code line) }
+{
+    write!(text, "certificate error {code} at {line}\n")
+}
+
+/// The word for a failing test.
+fn reason_word(reason: Reason) -> &'static str
+    ensures { result.now ≡ reason_text reason }
+{
+    match reason {
+        Reason::Step => "step",
+        Reason::Smaller => "smaller",
+        Reason::Missing => "missing",
+    }
 }
 
 /// A distance behind a space, or `none`.

@@ -17,7 +17,7 @@ use std::thread::Threads;
 pub const MOST_INPUT: usize = 16_777_216;
 
 /// How many bytes a source is asked for at a time.
-const PIECE: usize = 4096;
+pub const PIECE: usize = 4096;
 
 /// Answers the lines of the source, each as it becomes whole, and says whether one was refused.
 pub fn run<S: Source, K: Sink, R: Threads + Sync, G: Gate>(
@@ -115,7 +115,7 @@ fn answer_front<K: Sink, R: Threads + Sync, G: Gate>(
 }
 
 /// Fills the front of the buffer, with as many bytes as there is room for or fewer.
-fn take<S: Source>(source: &mut S, buffer: &mut [u8], room: usize) -> Result<usize, Stop>
+pub fn take<S: Source>(source: &mut S, buffer: &mut [u8], room: usize) -> Result<usize, Stop>
     requires some { 0 < room }
     requires inside { room ≤ length buffer.old }
     ensures ends { TakeEnds result (S.left source.old) (S.left source.new) (S.faults source.old) (S.faults source.new) room buffer.new }

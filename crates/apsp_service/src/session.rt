@@ -5,7 +5,7 @@ ghost use Rattle.script_reader.specs.Answer.{IsAnswer, Fits};
 ghost use Rattle.apsp_service.specs.Session.{State, opening, context_of, accepted, counted, HasReply, LineHasReply, after_line, after_lines};
 ghost use Rattle.script_reader.specs.Meaning.{line_of};
 ghost use Rattle.script_reader.specs.Input.{line_if_some};
-ghost use Rattle.apsp_service.specs.Giving.{HasNetwork, IsNetworkOf, IsReady, GrowsBy, TextGiven, vertices_in, GivingEnds};
+ghost use Rattle.apsp_service.specs.Giving.{HasNetwork, IsNetworkOf, IsReady, GrowsBy, TextGiven, IsRepliedBy, CertificateGiven, vertices_in, GivingEnds};
 ghost use Rattle.apsp_service.specs.Standing.{HasState, IsAt, IsSomewhere, TakesFront, TakesPiece};
 ghost use Rattle.script_reader.specs.Cutter.{StandsFor};
 ghost use Rattle.apsp_model.specs.declared.TheConstants.{MOST_VERTICES};
@@ -22,6 +22,14 @@ use script_reader::{Context, Line, LineCutter, LineError, read_line};
 use std::alloc::{AllocError, Global};
 use std::marker::Sync;
 use std::thread::Threads;
+
+/// Where the reply to a line is: it is the session's text, or the certificate of its network, which is
+/// given line by line.
+#[derive(Clone, Copy, Debug, PartialEq, Eq)]
+enum Reply {
+    Text,
+    Certificate,
+}
 
 /// What a session keeps from line to line: the line that is begun, the network and whether smoothing
 /// is on, how many lines there were and whether one was refused, and room for the text of a reply.
@@ -89,13 +97,14 @@ impl Session {
         read_line(self.alloc, self.cutter.line(), &self.context())
     }
 
-    /// Does what an accepted line asks for, and puts the reply behind the text.
+    /// Does what an accepted line other than `cert` asks for, and puts the reply behind the text.
     fn obey<R: Threads + Sync, G: Gate>(
         &mut self,
         crew: &Crew<'_, R, G>,
         line: Line,
     ) -> Result<(), AllocError>
         requires fits { Fits (vertices_in self.old.network) line }
+        requires text_alone { line ≡ Line.Cert → ⊥ }
         requires ready { IsReady self.old.network }
         ensures stands { (s : State) → HasNetwork self.old.network s → self.old.smooth ≡ s.smooth → OnOk result (HasNetwork self.new.network (accepted (counted s) line)) }
         ensures reply { (s : State) → HasNetwork self.old.network s → OnOk result (GrowsBy (HasReply s.vertices s.smooth s.commands line) (string_bytes self.old.text) (string_bytes self.new.text)) }
@@ -114,15 +123,19 @@ impl Session {
         }
     }
 
-    /// Answers the line that is begun: the text is its reply then.
+    /// Answers the line that is begun, and says where its reply is.
     fn answer<R: Threads + Sync, G: Gate>(
         &mut self,
         crew: &Crew<'_, R, G>,
-    ) -> Result<(), AllocError>
+    ) -> Result<Reply, AllocError>
         requires few { self.old.lines + 1 < 2 ^ 32 }
         requires stands { (s : State) × HasState self.old s }
-        ensures stands { (s : State) (content : List ℕ) → HasState self.old s → StandsFor self.old.cutter content → OnOk result (HasState self.new (after_line s content)) }
-        ensures reply { (s : State) (content : List ℕ) → HasState self.old s → StandsFor self.old.cutter content → OnOk result (LineHasReply s content (string_bytes self.new.text)) }
+        ensures stands { (s : State) (content : List ℕ) → HasState self.old s → StandsFor self.old.cutter content
+            → IfOk result (λ _. HasState self.new (after_line s content)) }
+        ensures reply { (s : State) (content : List ℕ) → HasState self.old s → StandsFor self.old.cutter content
+            → IfOk result (λ reply. IsRepliedBy reply s content (string_bytes self.new.text)) }
+        ensures certificate { IfOk result (λ reply. reply ≡ Reply.Certificate
+            → IsReady self.new.network × (0 < vertices_in self.new.network)) }
         ensures cutter { self.new.cutter ≡ self.old.cutter }
         ensures lines { self.new.lines ≡ self.old.lines + 1 }
     {
@@ -130,10 +143,15 @@ impl Session {
         self.text.clear();
         self.lines += 1;
         match reading {
-            Ok(line) => self.obey(crew, line),
+            Ok(Line::Cert) => Ok(Reply::Certificate),
+            Ok(line) => {
+                self.obey(crew, line)?;
+                Ok(Reply::Text)
+            }
             Err(LineError::Refused { code, place }) => {
                 self.refused = true;
-                put_error(&mut self.text, self.lines, code, place)
+                put_error(&mut self.text, self.lines, code, place)?;
+                Ok(Reply::Text)
             }
             Err(LineError::Memory) => Err(AllocError),
         }
@@ -152,8 +170,26 @@ impl Session {
         ensures lines { self.new.lines ≡ self.old.lines + 1 }
         ensures later { K.faults sink.old ≤ K.faults sink.new }
     {
-        self.answer(crew)?;
-        give(sink, self.text.as_str())
+        match self.answer(crew)? {
+            Reply::Text => give(sink, self.text.as_str()),
+            Reply::Certificate => self.give_certificate(sink),
+        }
+    }
+
+    /// Gives the sink the certificate of the network, line by line.
+    fn give_certificate<K: Sink>(&mut self, sink: &mut K) -> Result<(), Stop>
+        requires ready { IsReady self.old.network }
+        requires some { 0 < vertices_in self.old.network }
+        ensures stands { (s : State) → HasState self.old s → HasState self.new s }
+        ensures gives { (s : State) → HasState self.old s
+            → CertificateGiven result (K.held sink.old) (K.held sink.new) (K.faults sink.old) (K.faults sink.new) s }
+        ensures lines { self.new.lines ≡ self.old.lines }
+        ensures later { K.faults sink.old ≤ K.faults sink.new }
+    {
+        match &mut self.network {
+            Some(network) => network.give_certificate(sink),
+            None => Ok(()),
+        }
     }
 
     /// Takes the piece up to and with its first newline, or all of it, and answers the line that is
@@ -241,7 +277,7 @@ impl Session {
 }
 
 /// Gives a reply, where there is one.
-fn give<K: Sink>(sink: &mut K, text: &str) -> Result<(), Stop>
+pub fn give<K: Sink>(sink: &mut K, text: &str) -> Result<(), Stop>
     ensures given { TextGiven result (K.held sink.old) (K.held sink.new) (K.faults sink.old) (K.faults sink.new) text.now }
     ensures later { K.faults sink.old ≤ K.faults sink.new }
 {
@@ -255,7 +291,7 @@ fn give<K: Sink>(sink: &mut K, text: &str) -> Result<(), Stop>
     }
 }
 
-/// Does what a line asks for that does not begin a graph, and puts the reply behind the text.
+/// Does what a line asks for that neither begins a graph nor is `cert`, and puts the reply behind the text.
 fn obey_in<R: Threads + Sync, G: Gate>(
     network: &mut Network,
     crew: &Crew<'_, R, G>,
@@ -264,6 +300,7 @@ fn obey_in<R: Threads + Sync, G: Gate>(
 ) -> Result<(), AllocError>
     requires fits { Fits network.old.opening line }
     requires goes_on { (n : ℕ) → line ≡ Line.Vertices n → ⊥ }
+    requires text_alone { line ≡ Line.Cert → ⊥ }
     requires ready { IsReady (Some network.old) }
     ensures stands { (s : State) → IsNetworkOf network.old s → OnOk result (IsNetworkOf network.new (accepted (counted s) line)) }
     ensures reply { (s : State) → IsNetworkOf network.old s → OnOk result (GrowsBy (HasReply s.vertices s.smooth s.commands line) (string_bytes text.old) (string_bytes text.new)) }
@@ -277,6 +314,6 @@ fn obey_in<R: Threads + Sync, G: Gate>(
         Line::Row { x } => network.put_row(text, x),
         Line::Stats => network.put_stats(text),
         Line::Age(list) => network.put_age(text, list.items()),
-        Line::Nothing | Line::Vertices(_) => Ok(()),
+        Line::Nothing | Line::Vertices(_) | Line::Cert => Ok(()),
     }
 }

@@ -1,5 +1,5 @@
 ghost use Rattle.std.specs.Prelude.{◌≡◌, IfSome, map, string_bytes};
-ghost use Rattle.apsp_service.specs.Words.{HasWorkers, mode_of, run_of};
+ghost use Rattle.apsp_service.specs.Words.{HasWorkers, mode_of, run_of, check_of};
 ghost use Rattle.apsp_service.specs.declared.words.Mode.TheVariants as mode;
 
 /// The most workers of a mode.
@@ -10,10 +10,13 @@ pub const MOST_WORKERS: u32 = 64;
 pub enum Mode {
     /// Runs a script, with 1 to `MOST_WORKERS` workers and with or without smoothing.
     Run { workers: u32, smooth: bool },
+    /// Reads a certificate, and says what holds of it.
+    Check,
 }
 
 /// The mode that the words of the command line give, and none where they are not in the grammar:
-/// no words, or the word `run`, with the option `--smooth` or without it. Takes no memory.
+/// no words, or the word `run`, with the option `--smooth` or without it, or the word `check` alone.
+/// Takes no memory.
 pub fn read_words(words: &[String]) -> Option<Mode>
     ensures mode { result ≡ mode_of (map string_bytes words.now) }
     ensures workers { IfSome result HasWorkers }
@@ -21,6 +24,7 @@ pub fn read_words(words: &[String]) -> Option<Mode>
     match words {
         [] => run_mode(words),
         [mode, options @ ..] if mode.as_str() == "run" => run_mode(options),
+        [mode, options @ ..] if mode.as_str() == "check" => check_mode(options),
         _ => None,
     }
 }
@@ -32,6 +36,16 @@ fn run_mode(options: &[String]) -> Option<Mode>
     match options {
         [] => Some(run(false)),
         [option] if option.as_str() == "--smooth" => Some(run(true)),
+        _ => None,
+    }
+}
+
+/// The mode `check`, which has no options.
+fn check_mode(options: &[String]) -> Option<Mode>
+    ensures { result ≡ check_of (map string_bytes options.now) }
+{
+    match options {
+        [] => Some(Mode::Check),
         _ => None,
     }
 }

@@ -119,7 +119,10 @@ fn a_version_is_filled(rt: HostRuntime) -> Result<(), Fail> {
     assert_eq!(rt; version.dist_row(0), [0, 4, 7].as_slice());
     assert_eq!(rt; version.hops_row(0), [0, 1, 2].as_slice());
     assert_eq!(rt; version.next_row(0), [0, 1, 1].as_slice());
-    assert_eq!(rt; version.dist_row(2), [NO_DISTANCE, NO_DISTANCE, 0].as_slice());
+    assert_eq!(rt;
+        version.dist_row(2),
+        [NO_DISTANCE, NO_DISTANCE, 0].as_slice()
+    );
     assert_eq!(rt; version.hops_row(2), [NO_HOPS, NO_HOPS, 0].as_slice());
     assert_eq!(rt; version.next_row(2), [NO_NEXT, NO_NEXT, 2].as_slice());
     assert!(rt; version.walk(0, 2).eq([0, 1, 2]));

@@ -1,0 +1,113 @@
+//! A run that checks: the whole input is read as a certificate, and one line says what holds of it.
+
+ghost use Rattle.std.specs.Prelude.{◌≡◌, ◌≤◌, [], ◌++◌, length, IfOk, Ok, true, string_bytes};
+ghost use Rattle.apsp_service.specs.declared.words.Mode.TheVariants as mode;
+ghost use Rattle.cert_check.specs.Tests.{IsVerdict};
+ghost use Rattle.apsp_service.specs.Check.{IsChecked, verdict_text, verdict_status, fault_text};
+ghost use Rattle.apsp_service.specs.Ending.{EndsAs, AllTaken, MoreEnds};
+ghost use Rattle.apsp_service.specs.Outcome.{status_after};
+
+use crate::replies::{put_fault, put_verdict};
+use crate::run::{MOST_INPUT, PIECE, take};
+use crate::session::give;
+use crate::stop::Stop;
+use apsp_io::{Sink, Source};
+use cert_check::{Verdict, check};
+use certificate::{CertError, Stated, read_certificate};
+use std::alloc::{AllocError, Global};
+
+/// The number of each test that a line of a certificate may fail.
+const SHAPE: u32 = 1;
+
+const ORDER: u32 = 2;
+
+const RANGE: u32 = 3;
+
+/// Reads the input to its end, and gives the sink one line that says what holds of it. Says whether it
+/// is no certificate, or none of the least walks of its graph.
+pub fn check_input<S: Source, K: Sink>(
+    alloc: Global,
+    source: &mut S,
+    sink: &mut K,
+) -> Result<bool, Stop>
+    ensures ends { EndsAs mode.Check result (S.left source.old) (S.left source.new) (K.held sink.old) (K.held sink.new)
+        (S.faults source.old) (S.faults source.new) (K.faults sink.old) (K.faults sink.new) }
+    ensures source_later { S.faults source.old ≤ S.faults source.new }
+    ensures sink_later { K.faults sink.old ≤ K.faults sink.new }
+{
+    let bytes = take_all(alloc, source)?;
+    let mut text = String::new(alloc);
+    let refused = put_reply(alloc, &bytes, &mut text)?;
+    give(sink, text.as_str())?;
+    Ok(refused)
+}
+
+/// All bytes of the source.
+fn take_all<S: Source>(alloc: Global, source: &mut S) -> Result<Vec<u8>, Stop>
+    ensures ends { AllTaken result (S.left source.old) (S.left source.new) (S.faults source.old) (S.faults source.new) }
+    ensures later { S.faults source.old ≤ S.faults source.new }
+{
+    let mut buffer = [0; PIECE];
+    let mut bytes = Vec::new(alloc);
+    loop {
+        let count = take_more(source, &mut buffer, &mut bytes)?;
+        if count == 0 {
+            return Ok(bytes);
+        }
+    }
+}
+
+/// Puts one piece more behind the bytes. Says how many bytes it has, 0 at the end of the input.
+fn take_more<S: Source>(
+    source: &mut S,
+    buffer: &mut [u8],
+    bytes: &mut Vec<u8>,
+) -> Result<usize, Stop>
+    requires few { length bytes.old.items ≤ MOST_INPUT }
+    requires room { length buffer.old ≡ PIECE }
+    ensures ends { MoreEnds result (S.left source.old) (S.left source.new) (S.faults source.old) (S.faults source.new)
+        bytes.old.items bytes.new.items }
+    ensures later { S.faults source.old ≤ S.faults source.new }
+{
+    let room = PIECE.min(MOST_INPUT + 1 - bytes.len());
+    let count = take(source, buffer, room)?;
+    if bytes.len() + count > MOST_INPUT {
+        return Err(Stop::Limit);
+    }
+    bytes.extend_from_slice(&buffer[..count])?;
+    Ok(count)
+}
+
+/// Puts behind the text what holds of the bytes, and says whether that is a refusal.
+fn put_reply(alloc: Global, bytes: &[u8], text: &mut String) -> Result<bool, AllocError>
+    requires { string_bytes text.old ≡ [] }
+    ensures { IfOk result (λ refused. IsChecked bytes.now (string_bytes text.new) (status_after (Ok refused))) }
+{
+    match read_certificate(alloc, bytes) {
+        Ok(stated) => put_judgement(text, &stated),
+        Err(CertError::Shape(line)) => put_refusal(text, SHAPE, line),
+        Err(CertError::Order(line)) => put_refusal(text, ORDER, line),
+        Err(CertError::Range(line)) => put_refusal(text, RANGE, line),
+        Err(CertError::Memory) => Err(AllocError),
+    }
+}
+
+/// Puts behind the text what holds of a stated value, and says whether it is not lawful.
+fn put_judgement(text: &mut String, stated: &Stated) -> Result<bool, AllocError>
+    ensures { IfOk result (λ refused. (verdict : Verdict) × IsVerdict stated.now verdict
+        × (string_bytes text.new ≡ string_bytes text.old ++ verdict_text verdict)
+        × (status_after (Ok refused) ≡ verdict_status verdict)) }
+{
+    let verdict = check(stated);
+    put_verdict(text, verdict)?;
+    Ok(matches!(&verdict, Verdict::No { .. }))
+}
+
+/// Puts the fault of a line behind the text, and says that this is a refusal.
+fn put_refusal(text: &mut String, code: u32, line: u32) -> Result<bool, AllocError>
+    ensures { IfOk result (λ refused. (string_bytes text.new ≡ string_bytes text.old ++ fault_text code line)
+        × (refused ≡ true)) }
+{
+    put_fault(text, code, line)?;
+    Ok(true)
+}
