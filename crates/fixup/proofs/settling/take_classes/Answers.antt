@@ -16,3 +16,9 @@ classes-smaller-in_ok-settle_class g c = class_falls c.args.birth c.args.book.no
 
 pub classes-preserved-in_ok-settle_class : goal.classes-preserved-in_ok-settle_class
 classes-preserved-in_ok-settle_class g c = class_over c.args.birth c.args.book.now c.classes.book c.args.classes.now c.classes.classes c.classes.invariant c.requires.started c.pop_class.new.self c.arena.result.now c.arena.ensures.lent c.in-Some.class.rank c.in-Some.class.winners c.in-Some.ensures.class c.in-Some.ensures.fits c.winners.result.now c.winners.ensures c.settle_class.new.book c.settle_class.new.classes c.in_ok-settle_class.ensures.done
+
+pub classes-smaller-in_ok-settle_class-2 : goal.classes-smaller-in_ok-settle_class-2
+classes-smaller-in_ok-settle_class-2 g c = class_falls c.args.birth c.args.book.now c.classes.book c.args.classes.now c.classes.classes c.classes.invariant c.requires.started c.pop_class.new.self c.arena.result.now c.arena.ensures.lent c.in-Some.class.rank c.in-Some.class.winners c.in-Some.ensures.class c.in-Some.ensures.fits c.winners.result.now c.winners.ensures c.settle_class.new.book c.settle_class.new.classes c.in_ok-settle_class.ensures.done
+
+pub classes-preserved-in_ok-settle_class-2 : goal.classes-preserved-in_ok-settle_class-2
+classes-preserved-in_ok-settle_class-2 g c = class_over c.args.birth c.args.book.now c.classes.book c.args.classes.now c.classes.classes c.classes.invariant c.requires.started c.pop_class.new.self c.arena.result.now c.arena.ensures.lent c.in-Some.class.rank c.in-Some.class.winners c.in-Some.ensures.class c.in-Some.ensures.fits c.winners.result.now c.winners.ensures c.settle_class.new.book c.settle_class.new.classes c.in_ok-settle_class.ensures.done
