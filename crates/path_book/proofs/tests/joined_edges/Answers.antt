@@ -26,7 +26,7 @@ promote-requires-2-clause-live c =
 pub promote-requires-2-clause-pending : goal.promote-requires-2-clause-pending
 promote-requires-2-clause-pending c =
     let differ : c.in_ok-left.left ≢ c.in_ok-right.right = live_apart c.form_edge.new.self.arena c.in_ok-right.right c.in_ok-left.left c.in_ok-right.ensures.fresh (live_added _ _ _ _ (ap (λ (b : Book). b.arena) c.in_ok-left.ensures.formed)) in
-    still_pending_marked _ _ c.in_ok-left.left c.in_ok-right.right c.in_ok-promote.ensures.marked (λ same. differ (sym same))
+    still_pending_marked c.form_edge-2.new.self c.promote.new.self c.in_ok-left.left c.in_ok-right.right c.in_ok-promote.ensures.marked (λ same. differ (sym same))
     (formed_pending _ _ c.in_ok-right.right _ c.in_ok-left.ensures.lawful c.in_ok-right.ensures.fresh c.in_ok-right.ensures.formed)
 
 can_join : (c : goal.After-book-6-1) → CanJoin c.promote-2.new.self.arena c.in_ok-left.left c.in_ok-right.right
@@ -38,10 +38,10 @@ pub form_join-requires-clause-join : goal.form_join-requires-clause-join
 form_join-requires-clause-join c = can_join c
 
 pub form_join-requires-clause-left : goal.form_join-requires-clause-left
-form_join-requires-clause-left c = still_marked _ _ c.in_ok-right.right c.in_ok-left.left c.in_ok-promote-2.ensures.marked (marked_now _ _ c.in_ok-left.left c.in_ok-promote.ensures.marked)
+form_join-requires-clause-left c = still_marked c.promote.new.self c.promote-2.new.self c.in_ok-right.right c.in_ok-left.left c.in_ok-promote-2.ensures.marked (marked_now c.form_edge-2.new.self c.promote.new.self c.in_ok-left.left c.in_ok-promote.ensures.marked)
 
 pub form_join-requires-clause-right : goal.form_join-requires-clause-right
-form_join-requires-clause-right c = marked_now _ _ c.in_ok-right.right c.in_ok-promote-2.ensures.marked
+form_join-requires-clause-right c = marked_now c.promote.new.self c.promote-2.new.self c.in_ok-right.right c.in_ok-promote-2.ensures.marked
 
 pub form_join-requires-clause-new : goal.form_join-requires-clause-new
 form_join-requires-clause-new c =
