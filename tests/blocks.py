@@ -379,6 +379,30 @@ def faults(program, count, seed=1):
             yield f"script {i} of seed {seed} with {' '.join(words)}: {fault.decode()}\n{text.decode()}"
 
 
+SCRIPT = b"vertices 3\nblock\nstar 0 out 1:4 2:9\nask 0 2\nask 0 2 since 1\nstar 1 out 2:3 in 0:4\nask 0 2\nend\nblock\nask 0 1\n"
+ANSWERS = {0: b"at 0 path 0 2 none", 1: b"at 1 path 0 2 9 walk 0 2", 2: b"at 2 path 0 2 7 walk 0 1 2"}
+ALLOWED = [([0, 1, 0], 2), ([0, 2, 2], 1), ([2, 2, 2], 1), ([2, 1, 2], 3), ([1, 2, 1], 2)]
+NOT_ALLOWED = [([2, 1, 2], 1), ([0, 0, 0], 3), ([1, 1, 0], 2), ([0, 1], 2), ([0, 1, 1, 1], 4)]
+
+
+def missed():
+    """What the referee says wrongly of a small script: an answer of an older version than its reader saw, of a version
+    below what was asked, too few and too many answers, another walk, another end."""
+    end = b"line 11 error 13 at 0\n"
+    right = [(numbers, readers, end, 1, None) for numbers, readers in ALLOWED]
+    wrong = [(numbers, readers, end, 1, ANSWERS) for numbers, readers in NOT_ALLOWED]
+    wrong += [([0, 1, 2], 1, b"", 1, ANSWERS), ([0, 1, 2], 1, end, 0, ANSWERS)]
+    for numbers, readers, last, status, refused in right + wrong:
+        output = b"".join(ANSWERS[number] + b"\n" for number in numbers) + last
+        fault = judge(SCRIPT, output, status, readers, lambda data: [])
+        if (fault is None) != (refused is None):
+            yield f"the referee says {fault!r} of answers from {numbers} by {readers} readers, status {status}"
+    for number, other in ((1, b"at 1 path 0 2 7 walk 0 1 2"), (2, b"at 2 path 0 2 9 walk 0 2"), (2, b"at 2 path 0 2 none")):
+        output = b"\n".join([ANSWERS[0], ANSWERS[1], ANSWERS[2]]).replace(ANSWERS[number], other) + b"\n" + end
+        if judge(SCRIPT, output, 1, 3, lambda data: []) is None:
+            yield f"the referee allows {other!r}"
+
+
 def main():
     missed = list(faults(sys.argv[2], int(sys.argv[1]), int(sys.argv[3]) if len(sys.argv) > 3 else 1))
     for fault in missed[:3]:
