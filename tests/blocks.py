@@ -385,7 +385,7 @@ ALLOWED = [([0, 1, 0], 2), ([0, 2, 2], 1), ([2, 2, 2], 1), ([2, 1, 2], 3), ([1, 
 NOT_ALLOWED = [([2, 1, 2], 1), ([0, 0, 0], 3), ([1, 1, 0], 2), ([0, 1], 2), ([0, 1, 1, 1], 4)]
 
 
-def missed():
+def wrongly_judged():
     """What the referee says wrongly of a small script: an answer of an older version than its reader saw, of a version
     below what was asked, too few and too many answers, another walk, another end."""
     end = b"line 11 error 13 at 0\n"

@@ -135,7 +135,7 @@ def check_certificates():
 def check_blocks():
     """Whether what random scripts with blocks are answered is allowed, and the referee refuses what is not."""
     yield from blocks.faults(PROGRAM, 40)
-    yield from blocks.missed()
+    yield from blocks.wrongly_judged()
 
 
 def check_workers():
