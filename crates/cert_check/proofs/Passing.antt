@@ -6,7 +6,7 @@ use Rattle.apsp_model.specs.Stated.{Stated, Entry, StepHolds, NoSmaller, NoneMis
 use Rattle.cert_check.specs.declared.Reason.{Reason}
 use Rattle.cert_check.specs.declared.Reason.TheVariants.{Step, Smaller, Missing}
 use Rattle.cert_check.specs.Tests.{Passes, FailsFirst, IsFirstFailing}
-use Rattle.cert_check.specs.Pairs.{RowPasses}
+use Rattle.cert_check.specs.Pairs.{RowPasses, RowsPass}
 
 -- a pair that fails a test does not pass
 pub fails_not_passes : (s : Stated) (x y : ℕ) (r : Reason) → FailsFirst s x y r → Passes s x y → ⊥
@@ -22,10 +22,6 @@ fails_not_passes s x y Missing h p =
     let F : Option Entry → Type 0 = λ o. MatchOption o (NoneMissing s x y) (λ e. StepHolds s x y e × NoSmaller s x y e) in
     let there : NoneMissing s x y = subst F h.0 p in
     h.1 there
-
--- all pairs from the vertices below k pass
-pub record RowsPass (s : Stated) (k : ℕ) : Type 0 where
-  pub rows : (x : ℕ) → x < k → RowPasses s x s.graph.vertices
 
 pub no_rows : (s : Stated) → RowsPass s 0
 no_rows s = record { rows = λ x p. absurd (omega (arith, p)) }

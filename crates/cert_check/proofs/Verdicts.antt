@@ -12,8 +12,8 @@ use Rattle.cert_check.specs.declared.Reason.TheVariants.{Step, Smaller, Missing}
 use Rattle.cert_check.specs.declared.Verdict.{Verdict}
 use Rattle.cert_check.specs.declared.Verdict.TheVariants.{Yes, No}
 use Rattle.cert_check.specs.Tests.{Passes, FailsFirst, IsBefore, IsFirstFailing, IsVerdict}
-use Rattle.cert_check.specs.Pairs.{RowPasses}
-use Rattle.cert_check.proofs.Passing.{fails_not_passes, RowsPass, no_rows, more_rows, first_failing, lawful, not_lawful}
+use Rattle.cert_check.specs.Pairs.{RowPasses, RowsPass}
+use Rattle.cert_check.proofs.Passing.{fails_not_passes, no_rows, more_rows, first_failing, lawful, not_lawful}
 
 some_same : {V : Type 0} (x y : V) → Some x ≡ Some y → x ≡ y
 some_same x y e = cc

@@ -6,7 +6,8 @@ use Rattle.apsp_model.specs.Stated.{Stated, Entry as Stated_entry, IsWay, throug
 use Rattle.version_face.specs.declared.Entry.{Entry}
 use Rattle.version_face.specs.Entries.{stated}
 use Rattle.cert_check.specs.declared.Reason.{Reason}
-use Rattle.cert_check.specs.Tests.{Passes, FailsFirst}
+use Rattle.cert_check.specs.declared.Failure.{Failure}
+use Rattle.cert_check.specs.Tests.{Passes, FailsFirst, IsFirstFailing}
 
 -- the vertices below k to which edges from x lead are in the list
 pub record AreEnds (s : Stated) (x k : ℕ) (ends : List ℕ) : Type 0 where
@@ -48,3 +49,11 @@ RowPasses s x k = (y : ℕ) → y < k → x ≢ y → Passes s x y
 abbrev pub IsRowAnswer : Stated → ℕ → ℕ → Option (ℕ × Reason) → Type 0
 IsRowAnswer s x k None = RowPasses s x k
 IsRowAnswer s x k (Some p) = (p.0 < k) × (x ≢ p.0) × FailsFirst s x p.0 p.1 × RowPasses s x p.0
+
+-- all pairs from the vertices below k pass their tests
+pub record RowsPass (s : Stated) (k : ℕ) : Type 0 where
+  pub rows : (x : ℕ) → x < k → RowPasses s x s.graph.vertices
+
+abbrev pub IsFailureAnswer : Stated → ℕ → Option Failure → Type 0
+IsFailureAnswer s k None = RowsPass s k
+IsFailureAnswer s k (Some f) = IsFirstFailing s f.x f.y f.reason

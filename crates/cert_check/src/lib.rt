@@ -2,11 +2,11 @@
 //! alone.
 #![tactic(auto)]
 
-ghost use Rattle.std.specs.Prelude.{◌≡◌, ◌≢◌, ◌+◌, ◌<◌, MatchOption};
+ghost use Rattle.std.specs.Prelude.{◌≡◌, ◌≢◌, ◌+◌, ◌<◌, ◌≤◌, MatchOption};
 ghost use Rattle.apsp_model.specs.Stated.{Entry as Stated_entry, entry_at, entry_cmp, StepHolds, NoSmaller, NoneMissing};
 ghost use Rattle.version_face.specs.Entries.{stated};
 ghost use Rattle.cert_check.specs.Tests.{Passes, FailsFirst, IsVerdict};
-ghost use Rattle.cert_check.specs.Pairs.{AreEnds, IsPairAnswer, IsRowAnswer, IsStepAnswer, IsSmallerAnswer, IsMissingAnswer, IsWayAnswer, IsBelowAnswer};
+ghost use Rattle.cert_check.specs.Pairs.{AreEnds, IsPairAnswer, IsRowAnswer, IsFailureAnswer, IsStepAnswer, IsSmallerAnswer, IsMissingAnswer, IsWayAnswer, IsBelowAnswer};
 
 pub mod laws;
 
@@ -36,6 +36,14 @@ pub enum Verdict {
     No { x: u32, y: u32, reason: Reason },
 }
 
+/// A pair with the first of its tests that fails.
+#[derive(Clone, Copy)]
+struct Failure {
+    x: u32,
+    y: u32,
+    reason: Reason,
+}
+
 /// The most edges from one vertex.
 const MOST_ENDS: usize = MOST_VERTICES as usize;
 
@@ -45,13 +53,23 @@ pub fn check(stated: &Stated) -> Verdict
     ensures { IsVerdict stated.now result }
 {
     law_cert();
-    'rows: for x in 0..stated.vertices() {
-        match row_failure(stated, x) {
-            Some((y, reason)) => return Verdict::No { x, y, reason },
-            None => {}
+    match first_failure(stated, stated.vertices()) {
+        Some(Failure { x, y, reason }) => Verdict::No { x, y, reason },
+        None => Verdict::Yes(stated.number()),
+    }
+}
+
+/// The first pair with a failing test, from the first so many vertices.
+fn first_failure(stated: &Stated, rows: u32) -> Option<Failure>
+    requires { rows ≤ stated.now.graph.vertices }
+    ensures { IsFailureAnswer stated.now rows result }
+{
+    'rows: for x in 0..rows {
+        if let Some((y, reason)) = row_failure(stated, x) {
+            return Some(Failure { x, y, reason });
         }
     }
-    Verdict::Yes(stated.number())
+    None
 }
 
 /// The first pair from x with a failing test.
@@ -62,7 +80,7 @@ fn row_failure(stated: &Stated, x: u32) -> Option<(u32, Reason)>
     let ends = ends_from(stated, x);
     'pairs: for y in 0..stated.vertices() {
         if x != y {
-            if let Some(reason) = failure(stated, ends.as_slice(), x, y) {
+            if let Some(reason) = pair_failure(stated, ends.as_slice(), x, y) {
                 return Some((y, reason));
             }
         }
@@ -95,7 +113,7 @@ fn put_end(stated: &Stated, x: u32, u: u32, ends: &mut ArrayVec<u32, MOST_ENDS>)
 }
 
 /// The first test that a pair fails, where the ends of the edges from x are given.
-fn failure(stated: &Stated, ends: &[u32], x: u32, y: u32) -> Option<Reason>
+fn pair_failure(stated: &Stated, ends: &[u32], x: u32, y: u32) -> Option<Reason>
     requires from { x < stated.now.graph.vertices }
     requires to { y < stated.now.graph.vertices }
     requires apart { x ≢ y }

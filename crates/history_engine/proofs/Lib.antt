@@ -5,3 +5,4 @@ pub mod Steps
 pub mod Updating
 pub mod Reading
 pub mod Existing
+pub mod Seconds

@@ -1,11 +1,8 @@
 //! The engine as that from which a version is filled.
 
-ghost use Rattle.std.specs.Prelude.{◌≡◌, Some, length, false};
-ghost use Rattle.apsp_model.specs.Walk.{first};
-ghost use Rattle.path_arena.specs.Arena.{list_of};
-ghost use Rattle.version_face.specs.Entries.{second_of};
+ghost use Rattle.std.specs.Prelude.{◌≡◌, length, false};
 
-use crate::{Engine, Least};
+use crate::Engine;
 use version_face::{Answers, Entry, Version};
 
 impl Answers for Engine {
@@ -36,7 +33,7 @@ impl Answers for Engine {
         Some(Entry {
             dist: least.weight(),
             hops: least.hops(),
-            next: second(&least, x),
+            next: least.second(),
         })
     }
 }
@@ -50,18 +47,5 @@ impl Engine {
         ensures number { version.new.number ≡ length self.now.vertices }
     {
         version.refill(self);
-    }
-}
-
-/// The second vertex of a least path from x, or x where it has no other.
-fn second(least: &Least<'_>, x: u32) -> u32
-    requires { first (list_of least.now.book.arena least.now.id) ≡ Some x }
-    ensures { result ≡ second_of (list_of least.now.book.arena least.now.id) }
-{
-    let mut vertices = least.vertices();
-    vertices.next();
-    match vertices.next() {
-        Some(vertex) => vertex,
-        None => x,
     }
 }

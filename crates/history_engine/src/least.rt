@@ -3,6 +3,7 @@
 ghost use Rattle.std.specs.Prelude.{◌≡◌};
 ghost use Rattle.apsp_model.specs.Walk.{hops_of};
 ghost use Rattle.path_arena.specs.Arena.{IsLive, list_of, weight_of};
+ghost use Rattle.version_face.specs.Entries.{second_of};
 
 use path_arena::{PathId, Vertices};
 use path_book::Book;
@@ -57,6 +58,14 @@ impl<'a> Least<'a> {
         ensures { result ≡ hops_of (list_of self.now.book.arena self.now.id) }
     {
         self.book.arena().hops(self.id)
+    }
+
+    /// Its second vertex, and of a single vertex that vertex.
+    #[tactic(auto, using(crate::proofs::Seconds::second_is))]
+    pub(crate) fn second(&self) -> u32
+        ensures { result ≡ second_of (list_of self.now.book.arena self.now.id) }
+    {
+        self.book.arena().second(self.id)
     }
 
     /// Its vertices, from the first to the last.

@@ -7,7 +7,7 @@ use Rattle.std.proofs.Math.Seq.{get_or-append_seam}
 use Rattle.apsp_model.specs.declared.TheConstants.{MOST_VERTICES, MOST_WEIGHT}
 use Rattle.apsp_model.specs.Walk.{last}
 use Rattle.apsp_model.proofs.Lists.{contains_cons, contains_nil}
-use Rattle.path_arena.specs.Arena.{Path, Arena, path_at, vertex_of, IsLive, path_of, weight_of, HasAnEdge, single, edge_path, overlap_of, joined_path, with_path, without_path, IsPartOfNone, CanJoin, IsPath, IsArena, IsOpening}
+use Rattle.path_arena.specs.Arena.{Path, Arena, path_at, vertex_of, IsLive, path_of, weight_of, HasAnEdge, single, edge_path, overlap_of, joined_path, with_path, without_path, second, IsPartOfNone, CanJoin, IsPath, IsArena, IsOpening}
 use Rattle.path_arena.specs.Records.{slot_at, record_at, list_at, part_id, path_from, arena_in, view_of, IsRecordOf, IsKept, IsSound, IsPut, IsTaken, IsSingleRecord}
 use Rattle.path_arena.specs.declared.arena.Record.{Record}
 use Rattle.path_arena.specs.declared.arena.Arena.TheInside.{Inside}
@@ -66,7 +66,7 @@ pub record JoinFacts (m : Arena) (l r birth : ℕ) (left right overlap : Record)
   pub lighter : overlap.weight ≤ right.weight
   pub weight_fits : left.weight + (right.weight - overlap.weight) < 2 ^ 64
   pub hops_fit : left.hops + 1 < 2 ^ 16
-  pub is : (q : Record) → q ≡ record { weight = left.weight + (right.weight - overlap.weight); birth = birth; first = left.first; last = right.last; hops = left.hops + 1; left = l; right = r } → IsJoinRecord m l r (joined_path m l r birth).weight birth q
+  pub is : (q : Record) → q ≡ record { weight = left.weight + (right.weight - overlap.weight); birth = birth; first = left.first; second = left.second; last = right.last; hops = left.hops + 1; left = l; right = r } → IsJoinRecord m l r (joined_path m l r birth).weight birth q
 
 pub join_facts : (m : Arena) (l r birth : ℕ) → IsArena m → CanJoin m l r → (left right overlap : Record) → IsRecordOf (path_of m l) left → IsRecordOf (path_of m r) right → IsRecordOf (path_of m left.right) overlap → JoinFacts m l r birth left right overlap
 join_facts m l r birth h can left right overlap left_is right_is overlap_is = record {
@@ -77,6 +77,7 @@ join_facts m l r birth h can left right overlap left_is right_is overlap_is = re
     weight_is = (let total : left.weight + (right.weight - overlap.weight) ≡ weight_of m l + weight_of m r - weight_of m (overlap_of m l) = omega (arith, lighter, left_is.weight, right_is.weight, middle_weight) in total);
     birth_is = refl;
     first = left_is.first;
+    second = left_is.second;
     last = right_is.last;
     hops = left_is.hops;
     left = refl;
@@ -177,6 +178,10 @@ filled_all singles slots n some most h = record {
           subst (IsPath a id) p_is (path_is id one.0 (let l : one.0 < n = one.1 in omega (arith, h.as_many)) one.2)
           );
     };
+    second = λ key r e. (
+        let one = h.only key r e in
+        ap (λ p. second p.list) (single_path slots key one.0 r e one.3) ∙ ap Some (sym one.3.second)
+        );
     last = λ key r e. (
         let one = h.only key r e in
         ap (λ p. last p.list) (single_path slots key one.0 r e one.3) ∙ ap Some (sym one.3.last)

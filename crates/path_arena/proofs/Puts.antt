@@ -1,5 +1,5 @@
 -- What an arena is after a record is put in, or where there was no memory for it.
-use Rattle.std.specs.Prelude.{◌≡◌, ◌≢◌, ℕ, suc, ◌+◌, ◌*◌, ◌<◌, ◌≤◌, List, [], ◌∷◌, ◌++◌, length, Option, Some, None, Result, Ok, Err, IfOk, OnErr}
+use Rattle.std.specs.Prelude.{◌≡◌, ◌≢◌, ℕ, suc, ◌+◌, ◌*◌, ◌<◌, ◌≤◌, List, [], ◌∷◌, ◌++◌, length, Option, Some, None, Result, Ok, Err, IfOk, OnErr, refl}
 use Rattle.std.proofs.Common.{sym, ◌∙◌, ap, subst, arith}
 use Rattle.std.proofs.lemmas.List.{length-append}
 use Rattle.apsp_model.specs.declared.TheConstants.{MOST_VERTICES, MOST_WEIGHT}
@@ -8,7 +8,7 @@ use Rattle.apsp_model.specs.Part.{left_part, right_part}
 use Rattle.apsp_model.proofs.Lists.{last-push, first-append, left_and_last, length_right}
 use Rattle.apsp_model.proofs.Joins.{right-joined}
 use Rattle.apsp_model.proofs.Simples.{simple_is_short}
-use Rattle.path_arena.specs.Arena.{Path, Arena, path_at, vertex_of, IsLive, path_of, list_of, weight_of, single, edge_path, joined_path, with_path, CanJoin, IsPath, IsArena}
+use Rattle.path_arena.specs.Arena.{Path, Arena, path_at, vertex_of, IsLive, path_of, list_of, weight_of, single, edge_path, joined_path, with_path, second, CanJoin, IsPath, IsArena}
 use Rattle.path_arena.specs.Records.{slot_at, record_at, list_at, part_id, path_from, arena_in, IsRecordOf, IsKept, IsPut}
 use Rattle.path_arena.specs.declared.arena.Record.{Record}
 use Rattle.path_arena.proofs.Paths.{live_from, live_path, path_of_at, live_from_edge, Meeting, meeting, IsPath-edge, IsPath-joined}
@@ -35,14 +35,14 @@ module _ (singles : List ℕ) (old new : List (Option Record)) (kept : IsKept si
       let rights : part_id r.hops r.right ≡ Some r.right = ap (λ h. part_id h r.right) one_more in
       λ i. record { list = lists i; weight = r.weight; birth = r.birth; left = lefts i; right = rights i }
 
-  pub after_put : {E : Type 0} (r : Record) (p : Path) (o : Result ℕ E) → IfOk o (λ key. IsPut old new key r) → OnErr o (new ≡ old) → last p.list ≡ Some r.last → ((id : ℕ) → IsPath (arena_in singles old) id p) → ((key : ℕ) → IsPut old new key r → path_from new key r ≡ p) → AfterPut singles old new p o
-  after_put r p (Ok id) ok same ends path made = record {
-    kept = kept_put singles old new id r kept ok p (made id ok) (path id) ends;
+  pub after_put : {E : Type 0} (r : Record) (p : Path) (o : Result ℕ E) → IfOk o (λ key. IsPut old new key r) → OnErr o (new ≡ old) → second p.list ≡ Some r.second → last p.list ≡ Some r.last → ((id : ℕ) → IsPath (arena_in singles old) id p) → ((key : ℕ) → IsPut old new key r → path_from new key r ≡ p) → AfterPut singles old new p o
+  after_put r p (Ok id) ok same begins ends path made = record {
+    kept = kept_put singles old new id r kept ok p (made id ok) (path id) begins ends;
     fresh = no_path_of_slot singles old id ok.was;
     added = arena_put singles old new id r kept ok p (made id ok);
     memory = tt;
   }
-  after_put r p (Err e) ok same ends path made = record {
+  after_put r p (Err e) ok same begins ends path made = record {
     kept = subst (λ s. IsKept singles s) (sym same) kept;
     fresh = tt;
     added = tt;
@@ -54,6 +54,7 @@ pub record IsEdgeRecord (a : Arena) (u v w birth : ℕ) (r : Record) : Type 0 wh
   pub weight : r.weight ≡ w
   pub birth_is : r.birth ≡ birth
   pub first : r.first ≡ u
+  pub second : r.second ≡ v
   pub last : r.last ≡ v
   pub hops : r.hops ≡ 1
   pub left : r.left ≡ vertex_of a u
@@ -61,7 +62,7 @@ pub record IsEdgeRecord (a : Arena) (u v w birth : ℕ) (r : Record) : Type 0 wh
 
 pub after_edge : {E : Type 0} (singles : List ℕ) (old new : List (Option Record)) → IsKept singles old → (u v w birth : ℕ) (r : Record) → u < length singles → v < length singles → u ≢ v → w ≤ MOST_WEIGHT → IsEdgeRecord (arena_in singles old) u v w birth r → (o : Result ℕ E) → IfOk o (λ key. IsPut old new key r) → OnErr o (new ≡ old) → AfterPut singles old new (edge_path (arena_in singles old) u v w birth) o
 after_edge singles old new kept u v w birth r from to apart most is o ok same =
-    after_put singles old new kept r (edge_path a u v w birth) o ok same (ap Some (sym is.last)) (λ id. IsPath-edge a id u v w birth kept.arena from to apart most) made
+    after_put singles old new kept r (edge_path a u v w birth) o ok same (ap Some (sym is.second)) (ap Some (sym is.last)) (λ id. IsPath-edge a id u v w birth kept.arena from to apart most) made
   where
     a : Arena
     a = arena_in singles old
@@ -110,10 +111,16 @@ list_by_first : (p : List ℕ) (x : ℕ) → first p ≡ Some x → p ≡ x ∷ 
 list_by_first [] x e = cc
 list_by_first (y ∷ p) x e = let same : y ≡ x = cc in ap (λ z. z ∷ p) same
 
+second-append : (p q : List ℕ) → 1 < length p → second (p ++ q) ≡ second p
+second-append [] q long = absurd (omega arith)
+second-append (x ∷ []) q long = absurd (omega arith)
+second-append (x ∷ y ∷ p) q long = refl
+
 pub record IsJoinRecord (a : Arena) (l r weight birth : ℕ) (q : Record) : Type 0 where
   pub weight_is : q.weight ≡ weight
   pub birth_is : q.birth ≡ birth
   pub first : first (list_of a l) ≡ Some q.first
+  pub second : second (list_of a l) ≡ Some q.second
   pub last : last (list_of a r) ≡ Some q.last
   pub hops : length (list_of a l) ≡ q.hops
   pub left : q.left ≡ l
@@ -121,7 +128,7 @@ pub record IsJoinRecord (a : Arena) (l r weight birth : ℕ) (q : Record) : Type
 
 pub after_join : {E : Type 0} (singles : List ℕ) (old new : List (Option Record)) → IsKept singles old → (l r birth : ℕ) (q : Record) → CanJoin (arena_in singles old) l r → IsJoinRecord (arena_in singles old) l r (joined_path (arena_in singles old) l r birth).weight birth q → (o : Result ℕ E) → IfOk o (λ key. IsPut old new key q) → OnErr o (new ≡ old) → AfterPut singles old new (joined_path (arena_in singles old) l r birth) o
 after_join singles old new kept l r birth q can is o ok same =
-    after_put singles old new kept q (joined_path a l r birth) o ok same ends (λ id. IsPath-joined a id l r birth kept.arena can) made
+    after_put singles old new kept q (joined_path a l r birth) o ok same begins ends (λ id. IsPath-joined a id l r birth kept.arena can) made
   where
     a : Arena
     a = arena_in singles old
@@ -134,6 +141,9 @@ after_join singles old new kept l r birth q can is o ok same =
 
     there : (s : Record) × (slot_at old r ≡ Some s)
     there = slot_of_live singles old r live
+
+    begins : second (joined_path a l r birth).list ≡ Some q.second
+    begins = ap second (m.list birth) ∙ second-append (list_of a l) (m.to ∷ []) m.overlap.some ∙ is.second
 
     ends : last (joined_path a l r birth).list ≡ Some q.last
     ends = ap last (m.list birth) ∙ last-push (list_of a l) m.to ∙ sym m.ends ∙ is.last

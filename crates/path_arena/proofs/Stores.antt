@@ -6,7 +6,7 @@ use Rattle.std.proofs.Common.{sym, ◌∙◌, ap, subst, arith, inl, inr}
 use Rattle.std.proofs.lemmas.Bool.{cases_eq, false≢true}
 use Rattle.apsp_model.specs.Walk.{first, last}
 use Rattle.apsp_model.specs.Part.{right_part}
-use Rattle.path_arena.specs.Arena.{Path, Arena, path_at, IsLive, path_of, list_of, right_of, HasAnEdge, with_path, without_path, IsPartOfNone, HasParts, IsSingle, IsPath, IsArena}
+use Rattle.path_arena.specs.Arena.{Path, Arena, path_at, IsLive, path_of, list_of, right_of, second, HasAnEdge, with_path, without_path, IsPartOfNone, HasParts, IsSingle, IsPath, IsArena}
 use Rattle.path_arena.specs.Records.{no_record, slot_at, record_at, list_at, part_id, path_from, paths_in, arena_in, view_of, IsSound, IsRecordOf, IsKept, IsPut, IsTaken}
 use Rattle.path_arena.specs.declared.arena.Record.{Record}
 use Rattle.path_arena.specs.declared.arena.Arena.TheInside.{Inside}
@@ -51,6 +51,7 @@ module _ (singles : List ℕ) (slots : List (Option Record)) where
         weight = refl;
         birth = refl;
         first = first-list_at slots r.hops key ∙ ap (λ q. Some q.first) (record_of_slot slots key r e);
+        second = kept.second key r e;
         last = kept.last key r e;
         hops = length-list_at slots r.hops key;
         left = refl;
@@ -135,21 +136,26 @@ module _ (singles : List ℕ) (old new : List (Option Record)) (key : ℕ) (r : 
       let maps : paths_in new ≡ map.insert (paths_in old) key p = same_put (paths_in old) (paths_in new) key p there (λ k g. get-same old new IsOther put.others closed k g) in
       λ i. record { vertices = length singles; singles = singles; paths = maps i }
 
-  pub kept_put : (p : Path) → path_from new key r ≡ p → IsPath (arena_in singles old) key p → last p.list ≡ Some r.last → IsKept singles new
-  kept_put p is path ends = record {
-    arena = subst IsArena (sym (arena_put p is)) (IsArena-with (arena_in singles old) key p kept.arena (no_path_of_slot singles old key put.was) path);
-    last = λ k q e. at_key k q e (cases_eq k key);
-  }
+  -- what each list of an old record had, each has, where the new one has it
+  ends_put : (F : List ℕ → Record → Type 0) → ((k : ℕ) (q : Record) → slot_at old k ≡ Some q → F (list_at old q.hops k) q) → F (list_at new r.hops key) r → (k : ℕ) (q : Record) → slot_at new k ≡ Some q → F (list_at new q.hops k) q
+  ends_put F before here k q e = at_key (cases_eq k key)
     where
-      at_key : (k : ℕ) (q : Record) → slot_at new k ≡ Some q → (k ≡ key) ⊎ (k ≢ key) → last (list_at new q.hops k) ≡ Some q.last
-      at_key k q e (inl same) =
+      at_key : (k ≡ key) ⊎ (k ≢ key) → F (list_at new q.hops k) q
+      at_key (inl same) =
           let there : slot_at new key ≡ Some q = subst (λ j. slot_at new j ≡ Some q) same e in
           let r_is : r ≡ q = (let two : Some r ≡ Some q = sym put.here ∙ there in cc) in
-          subst (λ j. last (list_at new q.hops j) ≡ Some q.last) (sym same)
-          (subst (λ (s : Record). last (list_at new s.hops key) ≡ Some s.last) r_is (ap (λ (s : Path). last s.list) is ∙ ends))
-      at_key k q e (inr other) =
-          let before : slot_at old k ≡ Some q = sym (put.others k other) ∙ e in
-          ap (λ (s : Path). last s.list) (path_from_old k q before) ∙ kept.last k q before
+          subst (λ j. F (list_at new q.hops j) q) (sym same)
+          (subst (λ (s : Record). F (list_at new s.hops key) s) r_is here)
+      at_key (inr other) =
+          let was : slot_at old k ≡ Some q = sym (put.others k other) ∙ e in
+          subst (λ l. F l q) (sym (ap (λ (s : Path). s.list) (path_from_old k q was))) (before k q was)
+
+  pub kept_put : (p : Path) → path_from new key r ≡ p → IsPath (arena_in singles old) key p → second p.list ≡ Some r.second → last p.list ≡ Some r.last → IsKept singles new
+  kept_put p is path begins ends = record {
+    arena = subst IsArena (sym (arena_put p is)) (IsArena-with (arena_in singles old) key p kept.arena (no_path_of_slot singles old key put.was) path);
+    second = ends_put (λ l q. second l ≡ Some q.second) kept.second (ap (λ (s : Path). second s.list) is ∙ begins);
+    last = ends_put (λ l q. last l ≡ Some q.last) kept.last (ap (λ (s : Path). last s.list) is ∙ ends);
+  }
 
 -- ---- one record less
 
@@ -171,20 +177,25 @@ module _ (singles : List ℕ) (old new : List (Option Record)) (key : ℕ) (kept
       let maps : paths_in new ≡ map.remove (paths_in old) key = same_gone (paths_in old) (paths_in new) key (no_path_of_slot singles new key taken.here) (λ k g. get-same old new IsLeft taken.others left_closed k g) in
       λ i. record { vertices = length singles; singles = singles; paths = maps i }
 
-  pub kept_taken : IsKept singles new
+  -- what each list of a record had, each that is left has
+  ends_taken : (F : List ℕ → Record → Type 0) → ((k : ℕ) (q : Record) → slot_at old k ≡ Some q → F (list_at old q.hops k) q) → (k : ℕ) (q : Record) → slot_at new k ≡ Some q → F (list_at new q.hops k) q
   unfolding IsLeft
-  kept_taken = record {
-    arena = subst IsArena (sym arena_taken) (IsArena-without (arena_in singles old) key kept.arena edge free);
-    last = λ k q e. at_key k q e (cases_eq k key);
-  }
+  ends_taken F before k q e = at_key (cases_eq k key)
     where
-      at_key : (k : ℕ) (q : Record) → slot_at new k ≡ Some q → (k ≡ key) ⊎ (k ≢ key) → last (list_at new q.hops k) ≡ Some q.last
-      at_key k q e (inl same) =
+      at_key : (k ≡ key) ⊎ (k ≢ key) → F (list_at new q.hops k) q
+      at_key (inl same) =
           let there : slot_at new key ≡ Some q = subst (λ j. slot_at new j ≡ Some q) same e in
           absurd (let no : None ≡ Some q = sym taken.here ∙ there in cc)
-      at_key k q e (inr other) =
-          let before : slot_at old k ≡ Some q = sym (taken.others k other) ∙ e in
-          ap (λ (s : Path). last s.list) (path_from-same old new IsLeft taken.others left_closed k q other before) ∙ kept.last k q before
+      at_key (inr other) =
+          let was : slot_at old k ≡ Some q = sym (taken.others k other) ∙ e in
+          subst (λ l. F l q) (sym (ap (λ (s : Path). s.list) (path_from-same old new IsLeft taken.others left_closed k q other was))) (before k q was)
+
+  pub kept_taken : IsKept singles new
+  kept_taken = record {
+    arena = subst IsArena (sym arena_taken) (IsArena-without (arena_in singles old) key kept.arena edge free);
+    second = ends_taken (λ l q. second l ≡ Some q.second) kept.second;
+    last = ends_taken (λ l q. last l ≡ Some q.last) kept.last;
+  }
 
 -- ---- as the arena's functions see it
 

@@ -75,6 +75,12 @@ HasAnEdge a id = IsSome (left_of a id)
 abbrev pub id_cmp : Arena → ℕ → ℕ → Ordering
 id_cmp a x y = path_cmp (weight_of a x) (list_of a x) (weight_of a y) (list_of a y)
 
+-- the vertex behind the first, or the first where it stands alone
+abbrev pub second : List ℕ → Option ℕ
+second [] = None
+second (x ∷ []) = Some x
+second (x ∷ y ∷ p) = Some y
+
 abbrev pub single : ℕ → Path
 single v = record { list = v ∷ []; weight = 0; birth = 0; left = None; right = None }
 

@@ -3,12 +3,12 @@ use Rattle.std.specs.Prelude.{◌≡◌, ◌≢◌, ℕ, zero, suc, ◌+◌, Lis
 use Rattle.std.specs.Ordering.{nat_cmp}
 use Rattle.std.specs.FinMap as map
 use Rattle.apsp_model.specs.Walk.{first, last}
-use Rattle.path_arena.specs.Arena.{Path, Arena, IsLive, list_of, IsArena}
+use Rattle.path_arena.specs.Arena.{Path, Arena, IsLive, list_of, second, IsArena}
 use Rattle.path_arena.specs.declared.arena.Record.{Record}
 use Rattle.path_arena.specs.declared.arena.Arena.TheInside.{Inside}
 
 abbrev pub no_record : Record
-no_record = record { weight = 0; birth = 0; first = 0; last = 0; hops = 0; left = 0; right = 0 }
+no_record = record { weight = 0; birth = 0; first = 0; second = 0; last = 0; hops = 0; left = 0; right = 0 }
 
 abbrev pub slot_at : List (Option Record) → ℕ → Option Record
 slot_at slots key = slice_index_or slots key None
@@ -55,14 +55,16 @@ pub record IsRecordOf (p : Path) (r : Record) : Type 0 where
   pub weight : p.weight ≡ r.weight
   pub birth : p.birth ≡ r.birth
   pub first : first p.list ≡ Some r.first
+  pub second : second p.list ≡ Some r.second
   pub last : last p.list ≡ Some r.last
   pub hops : length p.list ≡ r.hops + 1
   pub left : p.left ≡ part_id r.hops r.left
   pub right : p.right ≡ part_id r.hops r.right
 
--- each record keeps the last vertex of its list
+-- each record keeps the second and the last vertex of its list
 pub record IsKept (singles : List ℕ) (slots : List (Option Record)) : Type 0 where
   pub arena : IsArena (arena_in singles slots)
+  pub second : (key : ℕ) (r : Record) → slot_at slots key ≡ Some r → second (list_at slots r.hops key) ≡ Some r.second
   pub last : (key : ℕ) (r : Record) → slot_at slots key ≡ Some r → last (list_at slots r.hops key) ≡ Some r.last
 
 abbrev pub IsSound : Inside → Type 0
@@ -92,5 +94,6 @@ pub record IsSingleRecord (v : ℕ) (r : Record) : Type 0 where
   pub weight : r.weight ≡ 0
   pub birth : r.birth ≡ 0
   pub first : r.first ≡ v
+  pub second : r.second ≡ v
   pub last : r.last ≡ v
   pub hops : r.hops ≡ 0

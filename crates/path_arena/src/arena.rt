@@ -5,7 +5,7 @@ ghost use Rattle.std.specs.Ordering.{nat_cmp};
 ghost use Rattle.std.specs.Cmp.Lexicographic.{slice_cmp};
 ghost use Rattle.apsp_model.specs.Walk.{first, last, hops_of};
 ghost use Rattle.apsp_model.specs.Order.{path_cmp};
-ghost use Rattle.path_arena.specs.Arena.{path_at, vertex_of, IsLive, path_of, list_of, weight_of, left_of, right_of, HasAnEdge, single, edge_path, joined_path, with_path, without_path, IsPartOfNone, CanJoin, IsArena, IsOpening};
+ghost use Rattle.path_arena.specs.Arena.{path_at, vertex_of, IsLive, path_of, list_of, weight_of, left_of, right_of, HasAnEdge, single, edge_path, joined_path, with_path, without_path, second, IsPartOfNone, CanJoin, IsArena, IsOpening};
 ghost use Rattle.path_arena.specs.Records.{IsPut, IsSingleRecord};
 
 use crate::id::PathId;
@@ -16,13 +16,15 @@ use std::alloc::Global;
 use std::cmp::Ordering;
 use std::marker::Model;
 
-/// A path. For a single vertex, which has no edge, the two parts mean nothing.
+/// A path. For a single vertex, which has no edge, the two parts mean nothing, and the second vertex
+/// is the vertex itself.
 #[derive(Drop)]
 struct Record {
     weight: u64,
     birth: u64,
     // Vertices and numbers of edges are below 2^16. With 16 bits each a slot of the slab takes 40 bytes.
     first: u16,
+    second: u16,
     last: u16,
     hops: u16,
     // The ids of the path without its last vertex, and without its first vertex.
@@ -100,6 +102,7 @@ impl Arena {
             weight: u64::from(w),
             birth,
             first: u as u16,
+            second: v as u16,
             last: v as u16,
             hops: 1,
             left,
@@ -124,6 +127,7 @@ impl Arena {
             weight: left.weight + (right.weight - overlap.weight),
             birth,
             first: left.first,
+            second: left.second,
             last: right.last,
             hops: left.hops + 1,
             left: l,
@@ -157,6 +161,15 @@ impl Arena {
         ensures lawful { IsArena self.now }
     {
         u32::from(self.record(id).first)
+    }
+
+    /// The second vertex of a live path, and of a single vertex that vertex. One record is read.
+    pub fn second(&self, id: PathId) -> u32
+        requires { IsLive self.now id }
+        ensures value { second (list_of self.now id) ≡ Some result }
+        ensures lawful { IsArena self.now }
+    {
+        u32::from(self.record(id).second)
     }
 
     /// The last vertex of a live path.
@@ -290,6 +303,7 @@ fn single_record(v: u32) -> Record
         weight: 0,
         birth: 0,
         first: v as u16,
+        second: v as u16,
         last: v as u16,
         hops: 0,
         left: unused,

@@ -51,7 +51,14 @@ fn a_join_is_read_back(rt: HostRuntime) -> Result<(), Fail> {
         ),
         (5, 2, 5)
     );
-    assert_eq!(rt; (arena.first(joined), arena.last(joined)), (0, 2));
+    assert_eq!(rt;
+        (
+            arena.first(joined),
+            arena.second(joined),
+            arena.last(joined)
+        ),
+        (0, 1, 2)
+    );
     assert!(rt; arena.left_part(joined) == left && arena.right_part(joined) == right);
     let list: Vec<u32> = arena.vertices(joined).collect(rt.alloc())?;
     assert_eq!(rt; list.as_slice(), [0, 1, 2].as_slice());

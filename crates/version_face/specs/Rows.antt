@@ -1,7 +1,6 @@
 -- The tables of a version, row by row: the cell of x and y stands at x * n + y.
 use Rattle.std.specs.Prelude.{◌≡◌, ℕ, ◌+◌, ◌*◌, ◌<◌, List, length, slice_index, Option, Some, None}
 use Rattle.apsp_model.specs.Graph.{Graph, IsGraph, weight_at}
-use Rattle.apsp_model.specs.Star.{Star}
 use Rattle.version_face.specs.declared.TheConstants.{NO_DISTANCE, NO_HOPS, NO_NEXT}
 use Rattle.version_face.specs.declared.Entry.{Entry}
 use Rattle.version_face.specs.Entries.{CellIs}
@@ -15,10 +14,9 @@ pub record AreCells (g : Graph) (k : ℕ) (dist hops next : List ℕ) : Type 0 w
       CellIs g x y (slice_index dist (x * g.vertices + y)) (slice_index hops (x * g.vertices + y))
       (slice_index next (x * g.vertices + y))
 
--- all cells are those of the graph's least walks, and there is room for a star
-pub record IsVersion (g : Graph) (star : Star) (dist hops next : List ℕ) : Type 0 where
+-- all cells are those of the graph's least walks
+pub record IsVersion (g : Graph) (dist hops next : List ℕ) : Type 0 where
   pub graph : IsGraph g
-  pub room : star.vertices ≡ g.vertices
   pub cells : AreCells g (g.vertices * g.vertices) dist hops next
 
 -- what the cells of an entry are
@@ -34,7 +32,7 @@ abbrev pub next_cell : Option Entry → ℕ
 next_cell None = NO_NEXT
 next_cell (Some e) = e.next
 
--- the edges from the vertices below k are those of the other graph
+-- the edges of the first k pairs, row by row, are those of the other graph
 pub record CopiedBelow (g : Graph) (k : ℕ) (copy : Graph) : Type 0 where
   pub vertices : copy.vertices ≡ g.vertices
-  pub weights : (u v : ℕ) → u < k → weight_at copy u v ≡ weight_at g u v
+  pub weights : (u v : ℕ) → v < g.vertices → u * g.vertices + v < k → weight_at copy u v ≡ weight_at g u v

@@ -2,12 +2,10 @@
 
 ghost use Rattle.std.specs.Prelude.{◌≡◌, ◌<◌, ◌*◌, ◌+◌, length, slice_set};
 ghost use Rattle.apsp_model.specs.Graph.{IsGraph};
-ghost use Rattle.apsp_model.specs.Star.{Star as Star_model, IsStar};
 ghost use Rattle.version_face.specs.Rows.{AreCells, dist_cell, hops_cell, next_cell, CopiedBelow};
-ghost use Rattle.version_face.specs.Stars.{IsRowOf};
 
 use crate::{Answers, Entry, NO_DISTANCE, NO_HOPS, NO_NEXT};
-use graph_store::{Graph, Star};
+use graph_store::Graph;
 
 /// Writes the cells of all pairs.
 pub fn fill_rows<A: Answers>(from: &A, dist: &mut [u64], hops: &mut [u32], next: &mut [u32])
@@ -62,46 +60,27 @@ fn put_cell(
     next[place] = cells.2;
 }
 
-/// Gives the graph the edges of the answers' graph, row by row. The star is room to work in.
-pub fn copy_weights<A: Answers>(from: &A, graph: &mut Graph, star: &mut Star)
+/// Gives the graph the edges of the answers' graph, cell by cell.
+pub fn copy_weights<A: Answers>(from: &A, graph: &mut Graph)
     requires same { graph.old.vertices ≡ (A.graph from.now).vertices }
-    requires room { star.old.vertices ≡ (A.graph from.now).vertices }
     requires is_graph { IsGraph graph.old }
     ensures graph { graph.new ≡ A.graph from.now }
     ensures is_graph { IsGraph graph.new }
-    ensures room { star.new.vertices ≡ star.old.vertices }
 {
-    'stars: for v in 0..from.vertices() {
-        graph.star_into(v, star);
-        put_row(from, v, star);
-        graph.apply(star);
+    'rows: for u in 0..from.vertices() {
+        copy_row(from, u, graph);
     }
 }
 
-/// Gives the star the edges from its vertex in the answers' graph.
-fn put_row<A: Answers>(from: &A, v: u32, star: &mut Star)
-    requires inside { v < (A.graph from.now).vertices }
-    requires room { star.old.vertices ≡ (A.graph from.now).vertices }
-    requires vertex { star.old.vertex ≡ v }
-    requires is_star { IsStar star.old }
-    ensures { IsRowOf (A.graph from.now) (A.graph from.now).vertices star.old star.new }
+/// Gives the graph the edges from u in the answers' graph.
+fn copy_row<A: Answers>(from: &A, u: u32, graph: &mut Graph)
+    requires inside { u < (A.graph from.now).vertices }
+    requires before { CopiedBelow (A.graph from.now) (u * (A.graph from.now).vertices) graph.old }
+    requires is_graph { IsGraph graph.old }
+    ensures after { CopiedBelow (A.graph from.now) ((u + 1) * (A.graph from.now).vertices) graph.new }
+    ensures is_graph { IsGraph graph.new }
 {
-    'ends: for u in 0..from.vertices() {
-        put_end(from, v, u, star);
+    'cells: for v in 0..from.vertices() {
+        graph.put_weight(u, v, from.weight(u, v));
     }
-}
-
-/// Gives the star the edge from its vertex to u, if it has one there.
-fn put_end<A: Answers>(from: &A, v: u32, u: u32, star: &mut Star)
-    requires inside { v < (A.graph from.now).vertices }
-    requires end { u < (A.graph from.now).vertices }
-    requires room { star.old.vertices ≡ (A.graph from.now).vertices }
-    requires vertex { star.old.vertex ≡ v }
-    ensures { (first : Star_model) → IsRowOf (A.graph from.now) u first star.old
-        → IsRowOf (A.graph from.now) (u + 1) first star.new }
-{
-    if u == v {
-        return;
-    }
-    star.put_out(u, from.weight(v, u));
 }
