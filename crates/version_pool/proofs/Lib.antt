@@ -2,4 +2,6 @@ mod Sound
 mod Granting
 mod Totals
 mod Steps
-mod Vertices
+pub mod Versions
+pub mod Losing
+pub mod Pairs

@@ -1,7 +1,7 @@
 use Rattle.std.proofs.Common.{rules, ◌≡◌, sym, ◌∙◌, ap}
 use Rattle.version_face.specs.Seen.{Seen}
 use Rattle.version_pool.specs.Marks.{mark}
-use Rattle.version_pool.proofs.Vertices.{vertices_of}
+use Rattle.version_pool.proofs.Versions.{vertices_of}
 use Rattle.version_pool.proofs.pool.Pool.new.Goals as goal
 
 pub returns-clause-publisher : goal.returns-clause-publisher
