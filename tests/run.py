@@ -11,10 +11,14 @@ A case is a folder with
 The scripts of examples are cases too: examples/NAME.txt with NAME.out, run with the words in NAME.words, if any.
 users.py has further checks, of the wrapper, the documents, the clients and the examples.
 The certificate that each script leads to is checked by the program itself and by a second checker, and both are tried
-on a small certificate with each byte changed.
+on a small certificate with each byte changed. What a script with blocks may be answered is judged by a referee
+(blocks.py), replies are compared at several numbers of workers (workers.py), and each allocation of some runs is
+refused (memory.py, where there is a C compiler).
 """
 
+import blocks
 import certificates
+import memory
 import os
 import pty
 import resource
@@ -26,6 +30,7 @@ import tty
 from concurrent.futures import ThreadPoolExecutor
 
 import users
+import workers
 
 HERE = os.path.dirname(os.path.abspath(__file__))
 TOP = os.path.dirname(HERE)
@@ -127,6 +132,35 @@ def check_certificates():
     print(f"{len(texts)} certificates checked")
 
 
+def check_blocks():
+    """Whether what random scripts with blocks are answered is allowed, and the referee refuses what is not."""
+    yield from blocks.faults(PROGRAM, 40)
+    yield from blocks.wrongly_judged()
+
+
+def check_workers():
+    """Whether the number of workers changes no byte."""
+    yield from workers.faults(PROGRAM, 40)
+
+
+def check_memory():
+    """Whether a run in which an allocation is refused gives a front of the usual output."""
+    if not memory.compiler():
+        print("memory: skipped, since there is no C compiler")
+        return
+    with open(os.path.join(TOP, "examples", "certificate.txt"), "rb") as file:
+        certificate = run(["run"], file.read(), [])[0]
+    for words, data in ((["run"], memory.script(12)), (["run", "--smooth"], memory.script(8)), (["check"], certificate),
+                        (["load", "8", "3"], b"")):
+        (runs, short_of), *faults = memory.faults(PROGRAM, words, data)
+        if not runs or not short_of:
+            faults.append(f"{' '.join(words)}: no allocation was refused")
+        yield from faults
+
+
+CHECKS = {"certificates": check_certificates, "blocks": check_blocks, "workers": check_workers, "memory": check_memory}
+
+
 def short(data):
     return repr(data) if len(data) <= 600 else f"{data[:600]!r}... ({len(data)} bytes)"
 
@@ -152,8 +186,10 @@ def main():
         print(f"{name}: words {words}\n  wanted {status} {short(expected)}\n  got    {end} {short(got)}")
     more, missed = users.checks(PROGRAM, wanted)
     passed, failed = passed + more, failed + missed
-    if not wanted or "certificates" in wanted:
-        faults = list(check_certificates())
+    for name, check in CHECKS.items():
+        if wanted and name not in wanted:
+            continue
+        faults = list(check())
         for fault in faults:
             print(fault)
         if faults:

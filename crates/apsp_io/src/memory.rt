@@ -39,7 +39,8 @@ impl MemorySource {
     /// memory.
     pub fn new(bytes: Vec<u8>, piece: usize, failing: Vec<u64>) -> Self
         requires { 1 ≤ piece }
-        ensures { result ≡ record { left = bytes.items; piece = piece; failing = failing.items; calls = 0; faults = 0 } }
+        ensures { result
+            ≡ record { left = bytes.items; piece = piece; failing = failing.items; calls = 0; faults = 0 } }
     {
         MemorySource {
             bytes,
@@ -66,8 +67,10 @@ impl Source for MemorySource {
         ensures fails { IsErr result ↔ Contains self.old.failing (self.old.calls + 1) }
         ensures count { IfOk result (λ k. k ≡ given self.old into.old) }
         ensures into { IfOk result (λ k. into.new ≡ take k self.old.left ++ drop k into.old) }
-        ensures ok { IfOk result (λ k. self.new ≡ record self.old { left = drop k self.old.left; calls = next_count self.old.calls }) }
-        ensures err { OnErr result (self.new ≡ record self.old { calls = next_count self.old.calls; faults = self.old.faults + 1 }) }
+        ensures ok { IfOk result
+            (λ k. self.new ≡ record self.old { left = drop k self.old.left; calls = next_count self.old.calls }) }
+        ensures err { OnErr result
+            (self.new ≡ record self.old { calls = next_count self.old.calls; faults = self.old.faults + 1 }) }
         ensures err_into { OnErr result (into.new ≡ into.old) }
     {
         let fails = is_listed(&self.failing, self.calls);
@@ -152,7 +155,8 @@ impl Sink for MemorySink {
 
     fn give(&mut self, piece: &[u8]) -> Result<(), GiveError>
         ensures given { OnOk result (Appends (Some self.old.held) (Some self.new.held) piece.now) }
-        ensures part { IsErrOf result GiveError.Failed → GrowsByPrefix (Some self.old.held) (Some self.new.held) piece.now }
+        ensures part { IsErrOf result GiveError.Failed
+            → GrowsByPrefix (Some self.old.held) (Some self.new.held) piece.now }
         ensures later { self.old.faults ≤ self.new.faults }
         ensures failed { IsErrOf result GiveError.Failed → Rose self.old.faults self.new.faults }
         ensures memory { IsErrOf result GiveError.Memory → Some self.new.held ≡ Some self.old.held }
@@ -161,8 +165,10 @@ impl Sink for MemorySink {
         ensures gives { OnOk result (cutoff_at self.old.failing (self.old.calls + 1) ≡ None) }
         ensures fails { IsErrOf result GiveError.Failed → IsSomeAnd (cutoff_at self.old.failing (self.old.calls + 1))
             (λ cutoff. self.new ≡ record self.old { held = self.old.held ++ take cutoff.kept piece.now; calls = next_count self.old.calls; faults = self.old.faults + 1 }) }
-        ensures ok { OnOk result (self.new ≡ record self.old { held = self.old.held ++ piece.now; calls = next_count self.old.calls }) }
-        ensures nothing { IsErrOf result GiveError.Memory → self.new ≡ record self.old { calls = next_count self.old.calls } }
+        ensures ok { OnOk result
+            (self.new ≡ record self.old { held = self.old.held ++ piece.now; calls = next_count self.old.calls }) }
+        ensures nothing { IsErrOf result GiveError.Memory
+            → self.new ≡ record self.old { calls = next_count self.old.calls } }
     {
         let cutoff = cutoff_after(&self.failing, self.calls);
         self.calls = self.calls.saturating_add(1);

@@ -32,7 +32,8 @@ impl<R: Read + Drop> Source for StdSource<R> {
 
     fn take(&mut self, into: &mut [u8]) -> Result<usize, Failed>
         ensures bound { ReadsAtMost result into.new }
-        ensures bytes { ReadConsumes (R.remaining (reader_of self.old)) (R.remaining (reader_of self.new)) result into.new }
+        ensures bytes { ReadConsumes (R.remaining (reader_of self.old))
+            (R.remaining (reader_of self.new)) result into.new }
         ensures later { read_faults_of self.old ≤ read_faults_of self.new }
         ensures failed { OnErr result (Rose (read_faults_of self.old) (read_faults_of self.new)) }
 
@@ -74,11 +75,14 @@ impl<W: Write + Drop> Sink for StdSink<W> {
     ghost faults = { write_faults_of };
 
     fn give(&mut self, piece: &[u8]) -> Result<(), GiveError>
-        ensures given { OnOk result (Appends (W.contents (writer_of self.old)) (W.contents (writer_of self.new)) piece.now) }
-        ensures part { IsErrOf result GiveError.Failed → GrowsByPrefix (W.contents (writer_of self.old)) (W.contents (writer_of self.new)) piece.now }
+        ensures given { OnOk result
+            (Appends (W.contents (writer_of self.old)) (W.contents (writer_of self.new)) piece.now) }
+        ensures part { IsErrOf result GiveError.Failed
+            → GrowsByPrefix (W.contents (writer_of self.old)) (W.contents (writer_of self.new)) piece.now }
         ensures later { write_faults_of self.old ≤ write_faults_of self.new }
         ensures failed { IsErrOf result GiveError.Failed → Rose (write_faults_of self.old) (write_faults_of self.new) }
-        ensures memory { IsErrOf result GiveError.Memory → W.contents (writer_of self.new) ≡ W.contents (writer_of self.old) }
+        ensures memory { IsErrOf result GiveError.Memory
+            → W.contents (writer_of self.new) ≡ W.contents (writer_of self.old) }
         ensures memory_faults { IsErrOf result GiveError.Memory → write_faults_of self.new ≡ write_faults_of self.old }
 
         ensures never_memory { IfErr result (λ e. e ≡ GiveError.Failed) }

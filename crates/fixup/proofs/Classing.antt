@@ -11,8 +11,9 @@ use Rattle.path_book.specs.Book.{Book}
 use Rattle.weight_classes.specs.Classes.{Classes, Rank, IsLower, Fits, IsHeld, IsPopped, first_of, last_of}
 use Rattle.weight_classes.proofs.Held.{popped_cases, class_held, still_held}
 use Rattle.std.proofs.lemmas.List.Elements.{Contains-get_or}
-use Rattle.fixup_math.proofs.Ranks.{ByWeightThenHops, weight_then_hops_is_rank}
-use Rattle.fixup_math.proofs.Settling.{IsClass}
+use Rattle.fixup_math.specs.Ranks.{ByWeightThenHops}
+use Rattle.fixup_math.proofs.Ranks.{weight_then_hops_is_rank}
+use Rattle.fixup_math.specs.Settling.{IsClass}
 use Rattle.fixup_math.proofs.Classes.{IsPoppedByWeightThenHops, IsWinners as IsWinnersOf, class_by_weight_then_hops}
 use Rattle.fixup_math.proofs.Winners.{class_starts}
 use Rattle.fixup.proofs.Growth.{id_weight}

@@ -13,7 +13,8 @@ use Rattle.path_arena.proofs.Paths.{live_path, live_from, path_of_at}
 use Rattle.path_book.specs.Book.{Book, IsBook, kept_paths, PathsCount, HistoricalCount}
 use Rattle.weight_classes.specs.Classes.{Classes, Rank, IsHeld}
 use Rattle.fixup_math.proofs.Counting.{count_without, count_unique, count_same, count_either, count_decides}
-use Rattle.fixup_math.proofs.Ranks.{ByWeightThenHops, weight_then_hops_is_rank}
+use Rattle.fixup_math.specs.Ranks.{ByWeightThenHops}
+use Rattle.fixup_math.proofs.Ranks.{weight_then_hops_is_rank}
 use Rattle.fixup_math.proofs.Settling.{settled}
 use Rattle.fixup_math.proofs.Start.{vertex_of_one}
 use Rattle.fixup.proofs.Growth.{grown_weights, grown_births}

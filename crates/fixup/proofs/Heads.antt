@@ -13,8 +13,10 @@ use Rattle.path_book.specs.Book.{Book, IsMarked, IsLeastKept, KeepsNone}
 use Rattle.pair_heaps.specs.Heaps.{HasEnds}
 use Rattle.weight_classes.specs.Classes.{Classes, Rank, Fits, IsHeld, IsWon, IsPushed}
 use Rattle.fixup_math.proofs.Counting.{head_in, tail_in}
-use Rattle.fixup_math.proofs.Firsts.{IsQueued, queued_at_start, IsLeastKept as IsLeastKeptOf}
-use Rattle.fixup_math.proofs.Settling.{IsSettling, settling_starts}
+use Rattle.fixup_math.specs.Settling.{IsQueued, IsLeastKept as IsLeastKeptOf}
+use Rattle.fixup_math.proofs.Firsts.{queued_at_start}
+use Rattle.fixup_math.specs.Settling.{IsSettling}
+use Rattle.fixup_math.proofs.Settling.{settling_starts}
 use Rattle.fixup_math.proofs.Start.{IsCleaned, IsEdgeAt, walk_back, vertex_of_one}
 use Rattle.fixup.specs.Starts.{IsHeadHeld}
 use Rattle.fixup.proofs.Held.{held_pushed}

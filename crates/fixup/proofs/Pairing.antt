@@ -17,9 +17,10 @@ use Rattle.path_book.proofs.Readers.{single_or_edge}
 use Rattle.pair_heaps.specs.Heaps.{HasEnds}
 use Rattle.weight_classes.specs.Classes.{Classes, Fits, InOrder}
 use Rattle.fixup_math.proofs.Counting.{in_nil}
-use Rattle.fixup_math.proofs.Promotions.{IsJoin, Then}
+use Rattle.fixup_math.specs.Joins.{IsJoin, Then}
 use Rattle.fixup_math.proofs.Forming.{contains_push}
-use Rattle.fixup_math.proofs.Ranks.{ByWeightThenHops, weight_then_hops_is_rank}
+use Rattle.fixup_math.specs.Ranks.{ByWeightThenHops}
+use Rattle.fixup_math.proofs.Ranks.{weight_then_hops_is_rank}
 use Rattle.fixup_math.proofs.Batches.{IsPair, pair_joins, join_has_pair, joins_are_new}
 use Rattle.fixup.specs.declared.listing.Join.{Join}
 use Rattle.fixup.specs.Joining.{IsFormed, IsJoined, IsQueuedIfLeast}

@@ -7,18 +7,22 @@ use Rattle.apsp_model.specs.Least.{IsLeast}
 use Rattle.apsp_model.specs.Walk.{IsWalk, IsWalkFrom, weight_of, first, last}
 use Rattle.apsp_model.specs.Order.{path_cmp}
 use Rattle.apsp_model.specs.Local.{IsLocal}
-use Rattle.apsp_model.proofs.Below.{IsUpto, upto_or_above}
+use Rattle.apsp_model.specs.Order.{IsUpto}
+use Rattle.apsp_model.proofs.Below.{upto_or_above}
 use Rattle.path_arena.specs.Arena.{Arena, Path, path_at, path_of, list_of, IsLive, no_path}
 use Rattle.path_book.specs.Book.{Book, IsMarked, IsBook, IsLeastKept, with_kept}
 use Rattle.pair_heaps.specs.Heaps.{HasEnds}
 use Rattle.weight_classes.specs.Classes.{Classes, Rank, Fits, IsHeld, IsPushed, IsWon}
-use Rattle.fixup_math.proofs.Promotions.{IsJoin, Then}
+use Rattle.fixup_math.specs.Joins.{IsJoin, Then}
 use Rattle.fixup_math.proofs.Counting.{in_cons, in_nil, head_in, tail_in}
-use Rattle.fixup_math.proofs.Ranks.{IsRank, ByWeightThenHops, weight_then_hops_is_rank}
-use Rattle.fixup_math.proofs.Firsts.{IsLeastKept as IsLeastKeptOf}
-use Rattle.fixup_math.proofs.Forming.{IsForming as IsFormingOf, forming_starts, forms_pushed, forms_unpushed, contains_push}
-use Rattle.fixup_math.proofs.Settling.{IsSettling, apart_by_simple}
-use Rattle.fixup_math.proofs.Winners.{IsInClass}
+use Rattle.fixup_math.specs.Ranks.{IsRank, ByWeightThenHops}
+use Rattle.fixup_math.proofs.Ranks.{weight_then_hops_is_rank}
+use Rattle.fixup_math.specs.Settling.{IsLeastKept as IsLeastKeptOf}
+use Rattle.fixup_math.specs.Settling.{IsForming as IsFormingOf}
+use Rattle.fixup_math.proofs.Forming.{forming_starts, forms_pushed, forms_unpushed, contains_push}
+use Rattle.fixup_math.specs.Settling.{IsSettling}
+use Rattle.fixup_math.proofs.Settling.{apart_by_simple}
+use Rattle.fixup_math.specs.Settling.{IsInClass}
 use Rattle.fixup_math.proofs.Batches.{joins_are_above, joins_are_not_marked, queued_all, class_closes}
 use Rattle.fixup.specs.Joining.{IsQueuedIfLeast}
 use Rattle.fixup.proofs.Views.{kept_with, held_with, path_new, path_other, path_still, list_still}

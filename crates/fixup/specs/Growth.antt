@@ -5,11 +5,11 @@ use Rattle.apsp_model.specs.Walk.{weight_of, first, last}
 use Rattle.path_arena.specs.Arena.{Path, path_at, list_of, IsLive}
 use Rattle.path_book.specs.Book.{Book, IsMarked, IsBook, IsLeastKept, KeepsNone}
 use Rattle.weight_classes.specs.Classes.{Classes, Rank, Fits, IsHeld, InOrder}
-use Rattle.fixup_math.proofs.Forming.{IsForming as IsFormingOf}
-use Rattle.fixup_math.proofs.Promotions.{IsJoin, Then}
-use Rattle.fixup_math.proofs.Ranks.{ByWeightThenHops}
-use Rattle.fixup_math.proofs.Settling.{IsSettling}
-use Rattle.fixup_math.proofs.Winners.{IsInClass}
+use Rattle.fixup_math.specs.Settling.{IsForming as IsFormingOf}
+use Rattle.fixup_math.specs.Joins.{IsJoin, Then}
+use Rattle.fixup_math.specs.Ranks.{ByWeightThenHops}
+use Rattle.fixup_math.specs.Settling.{IsSettling}
+use Rattle.fixup_math.specs.Settling.{IsInClass}
 use Rattle.fixup.specs.declared.listing.Join.{Join}
 use Rattle.fixup.specs.Owing.{IsPromoted, IsOwed}
 use Rattle.fixup.specs.Views.{Kept, Marked, HeldIn, WonIn}

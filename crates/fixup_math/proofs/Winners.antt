@@ -1,33 +1,14 @@
 -- A class that is taken, before its winners are promoted.
-use Rattle.std.specs.Prelude.{◌≡◌, ℕ, ◌<◌, ◌⊎◌, ◌↔◌, List, [], ◌∷◌, length, Some, refl}
+use Rattle.std.specs.Prelude.{◌≡◌, ℕ, ◌⊎◌, ◌↔◌, List, [], ◌∷◌, Some, refl}
 use Rattle.std.proofs.Common.{arith, inl, inr}
 use Rattle.apsp_model.specs.Graph.{Graph}
 use Rattle.apsp_model.specs.Walk.{IsWalk, IsWalkFrom, last}
-use Rattle.apsp_model.specs.Part.{IsClosedUnderParts}
-use Rattle.apsp_model.specs.Least.{IsLeast, IsLeastWalk}
-use Rattle.apsp_model.specs.Local.{IsVertex, IsLocal}
+use Rattle.apsp_model.specs.Least.{IsLeast}
 use Rattle.apsp_model.proofs.Walks.{last_is}
-use Rattle.fixup_math.proofs.Ranks.{IsRank}
-use Rattle.fixup_math.proofs.Firsts.{IsQueued}
-use Rattle.fixup_math.proofs.Settling.{IsSettling, IsClass, least_winner, winner_is_new, queued_popped}
-
--- what holds once the class of c is taken, where H0 held at the start of the settling: Todo holds of its winners, which are to be promoted
-pub record IsInClass (g : Graph) (UpTo : List ℕ → List ℕ → Type 0) (H0 H K Q Todo : List ℕ → Type 0) (Won : ℕ → ℕ → Type 0) (c : List ℕ) : Type 0 where
-  pub closed : IsClosedUnderParts H
-  pub singles : (p : List ℕ) → IsVertex g.vertices p → H p
-  pub old : (p : List ℕ) → H0 p → H p
-  pub grown : (p : List ℕ) → H p → H0 p ⊎ IsLeastWalk g p
-  pub kept : (p : List ℕ) → K p ↔ IsLocal g H p
-  pub marked_kept : (p : List ℕ) → H p → K p
-  pub held_kept : (p : List ℕ) → Q p → K p
-  pub queued : IsQueued g H K Q Won
-  pub won : (x y : ℕ) → Won x y → (w : List ℕ) × (H w ⊎ Todo w) × IsLeast g x y w
-  pub todo_kept : (w : List ℕ) → Todo w → K w
-  pub todo_least : (w : List ℕ) → Todo w → IsLeastWalk g w
-  pub todo_long : (w : List ℕ) → Todo w → 1 < length w
-  pub todo_new : (w : List ℕ) → Todo w → H w → ⊥
-  pub todo_won : (x y : ℕ) (w : List ℕ) → Todo w → IsWalkFrom g x y w → Won x y
-  pub todo_in_class : (w : List ℕ) → Todo w → UpTo c w
+use Rattle.fixup_math.specs.Ranks.{IsRank}
+use Rattle.fixup_math.specs.Settling.{IsSettling, IsClass}
+use Rattle.fixup_math.proofs.Settling.{least_winner, winner_is_new, queued_popped}
+use Rattle.fixup_math.specs.Settling.{IsInClass}
 
 ends_of : (g : Graph) (p : List ℕ) → IsWalk g p → (x : ℕ) × (y : ℕ) × IsWalkFrom g x y p
 ends_of g [] h = absurd h

@@ -14,7 +14,7 @@ use Rattle.apsp_model.specs.Paths.{KeptPath, IsKeptIn, IsHistoricalIn, HasBirthI
 use Rattle.apsp_model.proofs.Below.{upto_or_above}
 use Rattle.fixup_math.proofs.Births.{least_kept_is_least, none_kept_is_no_walk, book_of}
 use Rattle.fixup_math.proofs.Counting.{count_same}
-use Rattle.fixup_math.proofs.Firsts.{IsLeastKept as IsFirst}
+use Rattle.fixup_math.specs.Settling.{IsLeastKept as IsFirst}
 use Rattle.path_arena.specs.Arena.{vertex_of, IsLive, path_of, list_of, weight_of, id_cmp, single}
 use Rattle.path_arena.proofs.Paths.{live_from, path_of_at}
 use Rattle.path_book.specs.Book.{Book, IsBook, IsOpening, IsLeastKept, KeepsNone, kept_path, kept_paths}
