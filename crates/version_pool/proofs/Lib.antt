@@ -3,5 +3,4 @@ mod Granting
 mod Totals
 mod Steps
 pub mod Versions
-pub mod Losing
 pub mod Pairs

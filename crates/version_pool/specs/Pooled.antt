@@ -44,9 +44,12 @@ pub record IsPublisherOf (pool : Pool) (p : Publisher) : Type 0 where
   pub slots : p.slots ≡ pool.slots
   pub vertices : p.vertices ≡ pool.plan.start.vertices
 
-pub record IsReaderOf (pool : Pool) (r : Reader) : Type 0 where
-  pub pool_is : r.pool ≡ pool.id
-  pub slots : r.slots ≡ pool.slots
+pub record IsReaderAt (id : TableId) (count : ℕ) (r : Reader) : Type 0 where
+  pub pool_is : r.pool ≡ id
+  pub slots : r.slots ≡ count
+
+abbrev pub IsReaderOf : Pool → Reader → Type 0
+IsReaderOf pool r = IsReaderAt pool.id pool.slots r
 
 pub record IsNoteOf (pool : Pool) (n : Note) : Type 0 where
   pub pool_is : n.pool ≡ pool.id

@@ -135,7 +135,6 @@ impl Publisher {
 }
 
 /// The highest slot that can be claimed, but the announced one.
-#[tactic(auto, using(crate::proofs::Losing::none_lost, crate::proofs::Losing::passed, crate::proofs::Losing::lost_one))]
 fn claim_from_top<'a>(
     cells: &'a Cells<'_>,
     announced: u32,

@@ -1,6 +1,6 @@
-ghost use Rattle.std.specs.Prelude.{◌≡◌, ◌+◌, ◌<◌, ◌≤◌, IfOk};
+ghost use Rattle.std.specs.Prelude.{◌≡◌, ◌≤◌, IfOk};
 ghost use Rattle.apsp_model.specs.Graph.{no_edges};
-ghost use Rattle.graph_store.specs.Plan.{IsVersionOf, hi_of};
+ghost use Rattle.graph_store.specs.Plan.{IsVersionOf};
 ghost use Rattle.version_pool.specs.Pooled.{IsPublisherOf, IsReaderOf};
 
 use super::*;
@@ -42,6 +42,7 @@ impl Answers for Pair {
         self.graph.weight(u, v)
     }
 
+    #[tactic(auto, using(crate::proofs::Pairs::itself, crate::proofs::Pairs::edge, crate::proofs::Pairs::no_edge))]
     fn entry(&self, x: u32, y: u32) -> Option<Entry> {
         if x == y {
             return Some(Entry {
@@ -60,15 +61,19 @@ impl Answers for Pair {
 }
 
 impl Pair {
-    /// Makes the plan's next update.
-    fn advance(&mut self, plan: &Plan)
-        requires more { self.old.number < hi_of plan.now }
-        requires of_plan { IsVersionOf plan.now self.old.number self.old.graph }
-        ensures number { self.new.number ≡ self.old.number + 1 }
-        ensures of_plan { IsVersionOf plan.now self.new.number self.new.graph }
+    /// Makes the plan's next update, if there is one and the last one is announced.
+    fn advance(&mut self, plan: &Plan, announced: u64)
+        requires { IsVersionOf plan.now self.old.number self.old.graph }
+        ensures { IsVersionOf plan.now self.new.number self.new.graph }
     {
-        self.graph.apply(plan.star(self.number + 1));
+        if self.number != announced {
+            return;
+        }
+        if self.number == plan.hi() {
+            return;
+        }
         self.number += 1;
+        self.graph.apply(plan.star(self.number));
     }
 }
 
@@ -78,9 +83,9 @@ fn updates(alloc: Global) -> Result<Plan, Fail>
     ensures start { IfOk result (λ p. p.start ≡ no_edges 2) }
 {
     let mut plan = Plan::new(alloc, &Graph::new(alloc, 2)?, 0)?;
-    for weight in 1..=LAST {
+    for number in 0..LAST {
         let mut star = Star::new(alloc, 2, 0)?;
-        star.set_out(1, weight)?;
+        star.set_out(1, number + 1)?;
         plan.add(star)?;
     }
     Ok(plan)
@@ -101,10 +106,9 @@ fn publish_next(
     ensures publisher { IsPublisherOf pool.now publisher.new }
     ensures of_plan { IsVersionOf plan.now present.new.number present.new.graph }
 {
-    if present.number == publisher.announced() && present.number < plan.hi() {
-        present.advance(plan);
-    }
-    if present.number <= publisher.announced() || present.number - publisher.announced() != 1 {
+    let announced = publisher.announced();
+    present.advance(plan, announced);
+    if announced.checked_add(1) != Some(present.number) {
         return None;
     }
     publisher.publish(pool, present, tally).ok()
@@ -342,10 +346,10 @@ fn beside<R: Threads + Sync>(
     join(
         rt,
         move ||
-            requires publisher { IsPublisherOf pool.now publisher.entry }
+            requires publisher { IsPublisherOf pool.now publisher }
             requires plan { pool.now.plan ≡ plan.now }
             requires two { plan.now.start.vertices ≡ 2 }
-            requires of_plan { IsVersionOf plan.now present.entry.number present.entry.graph }
+            requires of_plan { IsVersionOf plan.now present.number present.graph }
         {
             let mut tally = Tally::new();
             publish_all(&mut publisher, pool, plan, &mut present, &mut tally)
@@ -378,7 +382,10 @@ fn a_reader_holds_versions_beside_the_publisher(rt: HostRuntime) -> Result<(), F
     assert_eq!(rt; announced, LAST);
     assert!(rt; holds.sound && holds.count > 0, "{holds:?}");
     let mut tally = Tally::new();
-    assert_eq!(rt; shown_at_once(&mut late, &pool, &mut tally), Some((LAST, LAST)));
+    assert_eq!(rt;
+        shown_at_once(&mut late, &pool, &mut tally),
+        Some((LAST, LAST))
+    );
     assert_eq!(rt; tally.lost(), 0);
     Ok(())
 }
