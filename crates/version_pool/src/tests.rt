@@ -1,4 +1,4 @@
-ghost use Rattle.std.specs.Prelude.{◌≡◌, ◌≤◌, IfOk};
+ghost use Rattle.std.specs.Prelude.{◌≡◌, ◌≤◌, All, IfOk, IfSome};
 ghost use Rattle.apsp_model.specs.Graph.{no_edges};
 ghost use Rattle.graph_store.specs.Plan.{IsVersionOf};
 ghost use Rattle.version_pool.specs.Pooled.{IsPublisherOf, IsReaderOf};
@@ -137,6 +137,16 @@ fn publish_all(
     publisher.announced()
 }
 
+/// Takes a reader of the pool.
+fn take_reader(readers: &mut Vec<Reader>, pool: &Pool<'_>) -> Option<Reader>
+    requires { All (IsReaderOf pool.now) readers.old.items }
+    ensures left { All (IsReaderOf pool.now) readers.new.items }
+    ensures taken { IfSome result (IsReaderOf pool.now) }
+{
+    let _ = pool;
+    readers.pop()
+}
+
 /// The number of a version, and the distance from 0 to 1 there.
 fn shown(version: &Version) -> (u64, u64) {
     let dist = if version.vertices() == 2 {
@@ -180,7 +190,10 @@ fn hold_the_first(alloc: Global, slots: u32) -> Result<Meanwhile, Fail>
         mut publisher,
         mut readers,
     } = Pool::new(alloc, slots, 2, &plan, &first)?;
-    let (Some(mut late), Some(mut early)) = (readers.pop(), readers.pop()) else {
+    let (Some(mut late), Some(mut early)) = (
+        take_reader(&mut readers, &pool),
+        take_reader(&mut readers, &pool),
+    ) else {
         return Err("no reader".into());
     };
     let mut present = Pair {
@@ -240,7 +253,10 @@ fn occupy(alloc: Global) -> Result<Occupied, Fail> {
         mut publisher,
         mut readers,
     } = Pool::new(alloc, 3, 2, &plan, &first)?;
-    let (Some(mut late), Some(mut early)) = (readers.pop(), readers.pop()) else {
+    let (Some(mut late), Some(mut early)) = (
+        take_reader(&mut readers, &pool),
+        take_reader(&mut readers, &pool),
+    ) else {
         return Err("no reader".into());
     };
     let mut present = Pair {
@@ -370,7 +386,10 @@ fn a_reader_holds_versions_beside_the_publisher(rt: HostRuntime) -> Result<(), F
         publisher,
         mut readers,
     } = Pool::new(alloc, 3, 2, &plan, &first)?;
-    let (Some(mut late), Some(reader)) = (readers.pop(), readers.pop()) else {
+    let (Some(mut late), Some(reader)) = (
+        take_reader(&mut readers, &pool),
+        take_reader(&mut readers, &pool),
+    ) else {
         return Err("no reader".into());
     };
     let present = Pair {
