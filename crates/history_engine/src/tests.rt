@@ -172,7 +172,11 @@ fn a_path_outlives_what_was_lighter(rt: HostRuntime) -> Result<(), Fail> {
     assert_eq!(rt; change, wanted);
     assert_eq!(rt; (engine.number(), engine.vertices()), (3, 3));
     assert_eq!(rt; weight(&engine, 0, 2), Some(9));
-    for (list, wanted) in [([0, 2].as_slice(), Some(1)), (&[0, 1], None), (&[1], Some(0))] {
+    for (list, wanted) in [
+        ([0, 2].as_slice(), Some(1)),
+        (&[0, 1], None),
+        (&[1], Some(0)),
+    ] {
         assert_eq!(rt; birth(&engine, list), wanted, "{list:?}");
     }
     assert_eq!(rt; least(&engine, 2, 0, [2, 0]), None);
@@ -206,7 +210,15 @@ fn a_version_is_filled(rt: HostRuntime) -> Result<(), Fail> {
     assert_eq!(rt; weight_in(&version, 2, 0), None);
     assert!(rt; are_rows(&version, 0, &[0, 4, 7], &[0, 1, 2], &[0, 1, 1]));
     let none = NO_DISTANCE;
-    assert!(rt; are_rows(&version, 2, &[none, none, 0], &[NO_HOPS, NO_HOPS, 0], &[NO_NEXT, NO_NEXT, 2]));
+    assert!(rt;
+        are_rows(
+            &version,
+            2,
+            &[none, none, 0],
+            &[NO_HOPS, NO_HOPS, 0],
+            &[NO_NEXT, NO_NEXT, 2]
+        )
+    );
     assert!(rt; is_walk(&version, 0, 2, [0, 1, 2]));
     Ok(())
 }
