@@ -1,6 +1,6 @@
 //! The joins of a class, listed by one worker or by several.
 
-ghost use Rattle.std.specs.Prelude.{◌≡◌, ℕ, ◌<◌, ◌≤◌, ◌^◌, length, IfOk, OnOk};
+ghost use Rattle.std.specs.Prelude.{◌≡◌, ◌≤◌, length, OnOk};
 ghost use Rattle.fixup.specs.Owing.{ArePromoted, AreOwed};
 
 use crate::listing::{Join, list_alone, list_winner};
@@ -62,7 +62,12 @@ impl<'a> Job for Owing<'a> {
 
     fn run(&self, task: u32) -> Result<Vec<Join>, Memory> {
         let mut joins = Vec::new(self.alloc);
-        list_winner(self.book, self.winners, self.winners[task as usize], &mut joins)?;
+        list_winner(
+            self.book,
+            self.winners,
+            self.winners[task as usize],
+            &mut joins,
+        )?;
         Ok(joins)
     }
 }

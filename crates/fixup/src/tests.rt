@@ -1,6 +1,6 @@
 //! Tests of settling by calls.
 
-ghost use Rattle.std.specs.Prelude.{◌≡◌, ℕ, ◌<◌, ◌≤◌, IsTrue, IfOk, OnOk, All, length};
+ghost use Rattle.std.specs.Prelude.{◌≡◌, ℕ, ◌<◌, ◌≤◌, IsTrue, IfOk, OnOk};
 ghost use Rattle.apsp_model.specs.Settled.{without_star, IsReady, IsSettled};
 ghost use Rattle.graph_store.specs.Making.{IsVertexCount};
 ghost use Rattle.path_book.specs.Book.{kept_paths};
@@ -214,17 +214,41 @@ fn check_with<R: Threads + Sync + Abort>(
         assert_eq!(rt; birth_of(&book, n, list), birth, "{list:?}");
     }
     for &(x, y, hops) in case.least {
-        assert_eq!(rt; historical_hops(&book, n, x, y), Some(hops), "from {x} to {y}");
+        assert_eq!(rt;
+            historical_hops(&book, n, x, y),
+            Some(hops),
+            "from {x} to {y}"
+        );
     }
     Ok(())
+}
+
+/// So many workers, for classes with at least so many partners.
+fn crew_of<'a, R>(
+    rt: &'a R,
+    alloc: Global,
+    gate: &'a OpenGate,
+    workers: u32,
+    many: usize,
+) -> Crew<'a, R, OpenGate>
+    requires some { 1 ≤ workers }
+    requires most { workers ≤ 64 }
+{
+    Crew {
+        rt,
+        alloc,
+        workers,
+        gate,
+        many,
+    }
 }
 
 /// Settles what the case says, by the caller alone and with each class listed by tasks.
 fn check<R: Threads + Sync + Abort>(rt: &R, alloc: Global, case: &Case<'_>) -> Result<(), Fail> {
     let gate = &OpenGate;
-    check_with(&Crew { rt, alloc, workers: 1, gate, many: MANY_PARTNERS }, case)?;
-    check_with(&Crew { rt, alloc, workers: 2, gate, many: 1 }, case)?;
-    check_with(&Crew { rt, alloc, workers: 7, gate, many: 1 }, case)
+    check_with(&crew_of(rt, alloc, gate, 1, MANY_PARTNERS), case)?;
+    check_with(&crew_of(rt, alloc, gate, 2, 1), case)?;
+    check_with(&crew_of(rt, alloc, gate, 7, 1), case)
 }
 
 /// Two edges of one weight are historical in one class, and their join is formed once.

@@ -1,4 +1,4 @@
-use Rattle.std.proofs.Common.{◌≡◌, ℕ, ◌+◌, List, [], ◌∷◌, ◌++◌, sym, ◌∙◌, ap, subst, take, Vec, Global}
+use Rattle.std.proofs.Common.{◌+◌, List, [], ◌∷◌, ◌++◌, sym, ◌∙◌, ap, subst, take, Vec, Global}
 use Rattle.std.proofs.lemmas.Bool.{true≢false}
 use Rattle.fixup.specs.declared.listing.Join.{Join}
 use Rattle.fixup.specs.Owing.{AreAdded, ListsFrom}

@@ -1,4 +1,4 @@
-use Rattle.std.proofs.Common.{◌≡◌, ℕ, Some, List, sym, ◌∙◌, ap, subst}
+use Rattle.std.proofs.Common.{◌≡◌, Some, sym, ◌∙◌, ap, subst}
 use Rattle.pair_heaps.proofs.Places.{on_ok}
 use Rattle.path_arena.specs.Arena.{Arena, IsLive, left_of, right_of}
 use Rattle.extension_lists.specs.Known.{Known, sides_at}
