@@ -1,13 +1,17 @@
 //! Tests of the cleanup by calls.
 
-ghost use Rattle.std.specs.Prelude.{◌≡◌, ◌≢◌, ◌<◌, IsTrue, All, length, [], ◌∷◌};
+ghost use Rattle.std.specs.Prelude.{◌≡◌, ◌≢◌, ◌<◌, IsTrue, IfOk, All, length, [], ◌∷◌};
+ghost use Rattle.cleanup_tasks.specs.Victims.{IsVictims};
 ghost use Rattle.path_book.specs.Book.{IsBook, IsNewList};
 
-use crate::{forget_all, victims};
+use crate::{Victims, forget_all, victims};
 use apsp_io::OpenGate;
 use path_arena::PathId;
 use path_book::Book;
+use std::alloc::Global;
+use std::marker::Sync;
 use std::test::Fail;
+use std::thread::Threads;
 
 /// Whether no kept path has these vertices.
 fn is_new(book: &Book, list: &[u32]) -> bool
@@ -55,28 +59,73 @@ fn join_new_edges(book: &mut Book, a: u32, b: u32, c: u32) -> Result<[PathId; 3]
     Ok([left, right, joined])
 }
 
+/// Two ways from 0 to 3, by 1 and by 2, and a vertex without edges; and the paths of each way.
+fn two_ways(alloc: Global) -> Result<(Book, [PathId; 3], [PathId; 3]), Fail>
+    ensures vertices { IfOk result (λ t. t.0.arena.vertices ≡ 5) }
+{
+    let mut book = Book::new(alloc, 5)?;
+    let by_1 = join_edges(&mut book, 0, 1, 3)?;
+    let by_2 = join_edges(&mut book, 0, 2, 3)?;
+    Ok((book, by_1, by_2))
+}
+
+/// The victims of a vertex.
+fn through<R: Threads + Sync>(rt: &R, alloc: Global, book: &Book, v: u32) -> Result<Victims, Fail>
+    requires vertices { book.now.arena.vertices ≡ 5 }
+    ensures vertex { IfOk result (λ list. list.vertex ≡ v) }
+    ensures all { IfOk result (λ list. IsVictims book.now v list.ids) }
+{
+    if v >= 5 {
+        return Err(Fail::from("no such vertex"));
+    }
+    let list = victims(rt, alloc, book, v, 1, &OpenGate)?;
+    Ok(list)
+}
+
+/// Forgets the paths through a vertex, and tells how many are left.
+fn left_without<R: Threads + Sync>(
+    rt: &R,
+    alloc: Global,
+    book: &mut Book,
+    v: u32,
+) -> Result<u64, Fail>
+    requires vertices { book.old.arena.vertices ≡ 5 }
+{
+    let list = through(rt, alloc, book, v)?;
+    forget_all(book, &list);
+    Ok(book.count_paths())
+}
+
 /// Whether these are the two ids, in either order.
 fn are(ids: &[PathId], a: PathId, b: PathId) -> bool {
     ids == [a, b].as_slice() || ids == [b, a].as_slice()
 }
 
-/// Two ways from 0 to 3, by 1 and by 2, and a vertex without edges.
+/// Whether these are two edges, in either order, and then their join.
+fn are_edges_and_join(ids: &[PathId], a: PathId, b: PathId, joined: PathId) -> bool {
+    ids.len() == 3 && are(&ids[..2], a, b) && ids[2] == joined
+}
+
+/// Whether these are two edges and then two joins, each in either order.
+fn are_edges_and_joins(ids: &[PathId], edges: [PathId; 2], joins: [PathId; 2]) -> bool {
+    ids.len() == 4 && are(&ids[..2], edges[0], edges[1]) && are(&ids[2..], joins[0], joins[1])
+}
+
 #[test]
-fn paths_through_a_vertex_are_found_and_forgotten(rt: HostRuntime) -> Result<(), Fail> {
-    let mut book = Book::new(rt.alloc(), 5)?;
-    let [to_1, from_1, by_1] = join_edges(&mut book, 0, 1, 3)?;
-    let [to_2, _, by_2] = join_edges(&mut book, 0, 2, 3)?;
-    let inner = victims(&rt, rt.alloc(), &book, 1, 1, &OpenGate)?;
-    assert_eq!(rt; inner.ids().len(), 3);
-    assert!(rt; are(&inner.ids()[..2], to_1, from_1));
-    assert_eq!(rt; inner.ids()[2], by_1);
-    let start = victims(&rt, rt.alloc(), &book, 0, 1, &OpenGate)?;
-    assert_eq!(rt; start.ids().len(), 4);
-    assert!(rt; are(&start.ids()[..2], to_1, to_2));
-    assert!(rt; are(&start.ids()[2..], by_1, by_2));
-    let alone = victims(&rt, rt.alloc(), &book, 4, 1, &OpenGate)?;
+fn paths_through_a_vertex_are_found(rt: HostRuntime) -> Result<(), Fail> {
+    let (book, [to_1, from_1, by_1], [to_2, _, by_2]) = two_ways(rt.alloc())?;
+    let inner = through(&rt, rt.alloc(), &book, 1)?;
+    assert!(rt; are_edges_and_join(inner.ids(), to_1, from_1, by_1));
+    let start = through(&rt, rt.alloc(), &book, 0)?;
+    assert!(rt; are_edges_and_joins(start.ids(), [to_1, to_2], [by_1, by_2]));
+    let alone = through(&rt, rt.alloc(), &book, 4)?;
     assert_eq!(rt; alone.ids().len(), 0);
-    forget_all(&mut book, &inner);
-    assert_eq!(rt; book.count_paths(), 3);
+    Ok(())
+}
+
+#[test]
+fn paths_through_a_vertex_are_forgotten(rt: HostRuntime) -> Result<(), Fail> {
+    let (mut book, _, _) = two_ways(rt.alloc())?;
+    assert_eq!(rt; left_without(&rt, rt.alloc(), &mut book, 1)?, 3);
     Ok(())
 }

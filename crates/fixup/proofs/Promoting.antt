@@ -14,7 +14,7 @@ use Rattle.path_book.specs.Book.{Book, IsMarked, IsBook, IsLeastKept, with_kept}
 use Rattle.pair_heaps.specs.Heaps.{HasEnds}
 use Rattle.weight_classes.specs.Classes.{Classes, Rank, Fits, IsHeld, IsPushed, IsWon}
 use Rattle.fixup_math.specs.Joins.{IsJoin, Then}
-use Rattle.fixup_math.proofs.Counting.{in_cons, in_nil, head_in, tail_in}
+use Rattle.fixup_math.proofs.Counting.{in_nil}
 use Rattle.fixup_math.specs.Ranks.{IsRank, ByWeightThenHops}
 use Rattle.fixup_math.proofs.Ranks.{weight_then_hops_is_rank}
 use Rattle.fixup_math.specs.Settling.{IsLeastKept as IsLeastKeptOf}
@@ -30,7 +30,7 @@ use Rattle.fixup.proofs.Growth.{grown_with, id_weight}
 use Rattle.fixup.proofs.Held.{held_pushed}
 use Rattle.fixup.specs.Views.{HeldIn, Kept, Marked, WonIn}
 use Rattle.fixup.specs.Owing.{IsPromoted}
-use Rattle.fixup.specs.Growth.{IsAt, IsTaken, IsDone, IsGrown, IsForming, ListedIn}
+use Rattle.fixup.specs.Growth.{IsTaken, IsDone, IsGrown, IsForming, ListedIn}
 
 -- the least kept path of a book is the least one of the graph's order
 pub least_kept : (g : Graph) (birth : ℕ) (b0 b : Book) → IsGrown g birth b0 b → ((p : List ℕ) → Kept b p → IsWalk g p) → (x y id : ℕ) → IsLeastKept b x y id → IsLeastKeptOf g (Kept b) x y (list_of b.arena id)

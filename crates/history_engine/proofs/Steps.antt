@@ -1,5 +1,5 @@
 -- One star step: what cleanup and settling leave is what the step of a star gives.
-use Rattle.std.specs.Prelude.{◌≡◌, ℕ, ◌+◌, ◌<◌, ◌⊎◌, ◌↔◌, false, List, [], ◌∷◌, length, refl, Contains}
+use Rattle.std.specs.Prelude.{◌≡◌, ℕ, ◌+◌, ◌<◌, ◌⊎◌, ◌↔◌, false, List, length, refl, Contains}
 use Rattle.std.proofs.Common.{sym, ◌∙◌, ap, subst, arith, inl, inr}
 use Rattle.apsp_model.specs.Graph.{Graph, weight_at}
 use Rattle.apsp_model.specs.Star.{touches}
