@@ -3,7 +3,7 @@ use Rattle.std.specs.Prelude.{◌≡◌, ◌≢◌, ℕ, ◌<◌, ◌⊎◌, ◌
 use Rattle.apsp_model.specs.Graph.{Graph, HasEdge}
 use Rattle.apsp_model.specs.Walk.{weight_of, first, last}
 use Rattle.path_arena.specs.Arena.{Path, path_at, list_of, IsLive}
-use Rattle.path_book.specs.Book.{Book, IsMarked, IsBook, IsLeastKept, KeepsNone}
+use Rattle.path_book.specs.Book.{Book, IsMarked, IsBook, ArePendingLeasts}
 use Rattle.weight_classes.specs.Classes.{Classes, Rank, Fits, IsHeld, InOrder}
 use Rattle.fixup_math.proofs.Forming.{IsForming as IsFormingOf}
 use Rattle.fixup_math.proofs.Promotions.{IsJoin, Then}
@@ -34,27 +34,21 @@ pub record IsEdging (g : Graph) (v birth : ℕ) (b0 : Book) (i j : ℕ) (b : Boo
   pub marks : b.marked ≡ b0.marked
   pub kept : (p : List ℕ) → Kept b p ↔ (Kept b0 p ⊎ EdgesBy g v i j p)
 
--- the pair of u and v stands before that of x and y, row by row
-abbrev pub StandsBefore : ℕ → ℕ → ℕ → ℕ → Type 0
-StandsBefore x y u v = (u < x) ⊎ ((u ≡ x) × (v < y))
+-- the lists of these ids
+abbrev pub ListedIn : Book → List ℕ → List ℕ → Type 0
+ListedIn b ids p = (w : ℕ) × Contains ids w × (list_of b.arena w ≡ p)
 
--- the least kept path of a pair before that of x and y, where it is not historical
-pub record IsHead (b : Book) (x y : ℕ) (p : List ℕ) : Type 0 where
-  pub from : ℕ
-  pub to : ℕ
-  pub id : ℕ
-  pub earlier : StandsBefore x y from to
-  pub inside : to < b.arena.vertices
-  pub least : IsLeastKept b from to id
-  pub pending : IsMarked b id → ⊥
-  pub list : list_of b.arena id ≡ p
-
--- the heads of the pairs before that of x and y are held
-pub record IsQueueing (b : Book) (x y : ℕ) (c : Classes) : Type 0 where
+-- these ids are held by now, and nothing else is
+pub record IsQueueing (b : Book) (ids : List ℕ) (c : Classes) : Type 0 where
   pub fits : Fits c b.arena
   pub none_won : (u v : ℕ) → WonIn c u v → ⊥
-  pub heads : (u v : ℕ) → StandsBefore x y u v → v < b.arena.vertices → KeepsNone b u v ⊎ ((id : ℕ) × IsLeastKept b u v id × (IsMarked b id ⊎ HeldIn b c (list_of b.arena id)))
-  pub held : (p : List ℕ) → HeldIn b c p → IsHead b x y p
+  pub held : (p : List ℕ) → HeldIn b c p ↔ ListedIn b ids p
+
+-- the least kept paths of the pairs that are not historical are held, and nothing else is
+pub record AreHeadsQueued (b : Book) (c : Classes) : Type 0 where
+  pub heads : List ℕ
+  pub are : ArePendingLeasts b b.arena.vertices heads
+  pub queueing : IsQueueing b heads c
 
 -- ---- the classes
 
@@ -70,10 +64,6 @@ pub record IsOver (g : Graph) (birth : ℕ) (b0 b : Book) : Type 0 where
   pub classes : Classes
   pub at : IsAt g birth b0 b classes
   pub empty : (r : Rank) (id : ℕ) → IsHeld classes r id → ⊥
-
--- the lists of these ids
-abbrev pub ListedIn : Book → List ℕ → List ℕ → Type 0
-ListedIn b ids p = (w : ℕ) × Contains ids w × (list_of b.arena w ≡ p)
 
 -- the class of cl is taken, and these are its winners, in the order of their pairs; none is promoted yet
 pub record IsTaken (g : Graph) (birth : ℕ) (b0 : Book) (cl : List ℕ) (winners : List ℕ) (b : Book) (c : Classes) : Type 0 where
