@@ -2,7 +2,7 @@
 use Rattle.std.specs.Prelude.{◌≡◌, ◌≢◌, ℕ, ◌<◌, ◌⊎◌, ◌↔◌, List, [], ◌∷◌, ◌++◌, length, Some, None, option_to_list, Contains}
 use Rattle.apsp_model.specs.Graph.{Graph, HasEdge}
 use Rattle.apsp_model.specs.Walk.{weight_of, first, last}
-use Rattle.path_arena.specs.Arena.{Path, path_at, list_of, IsLive}
+use Rattle.path_arena.specs.Arena.{Arena, Path, path_at, list_of, IsLive}
 use Rattle.path_book.specs.Book.{Book, IsMarked, IsBook, ArePendingLeasts}
 use Rattle.weight_classes.specs.Classes.{Classes, Rank, Fits, IsHeld, InOrder}
 use Rattle.fixup_math.proofs.Forming.{IsForming as IsFormingOf}
@@ -34,21 +34,17 @@ pub record IsEdging (g : Graph) (v birth : ℕ) (b0 : Book) (i j : ℕ) (b : Boo
   pub marks : b.marked ≡ b0.marked
   pub kept : (p : List ℕ) → Kept b p ↔ (Kept b0 p ⊎ EdgesBy g v i j p)
 
--- the lists of these ids
-abbrev pub ListedIn : Book → List ℕ → List ℕ → Type 0
-ListedIn b ids p = (w : ℕ) × Contains ids w × (list_of b.arena w ≡ p)
-
 -- these ids are held by now, and nothing else is
-pub record IsQueueing (b : Book) (ids : List ℕ) (c : Classes) : Type 0 where
-  pub fits : Fits c b.arena
+pub record IsQueueing (a : Arena) (ids : List ℕ) (c : Classes) : Type 0 where
+  pub fits : Fits c a
   pub none_won : (u v : ℕ) → WonIn c u v → ⊥
-  pub held : (p : List ℕ) → HeldIn b c p ↔ ListedIn b ids p
+  pub held : (id : ℕ) → ((r : Rank) × IsHeld c r id) ↔ Contains ids id
 
 -- the least kept paths of the pairs that are not historical are held, and nothing else is
 pub record AreHeadsQueued (b : Book) (c : Classes) : Type 0 where
   pub heads : List ℕ
   pub are : ArePendingLeasts b b.arena.vertices heads
-  pub queueing : IsQueueing b heads c
+  pub queueing : IsQueueing b.arena heads c
 
 -- ---- the classes
 
@@ -64,6 +60,10 @@ pub record IsOver (g : Graph) (birth : ℕ) (b0 b : Book) : Type 0 where
   pub classes : Classes
   pub at : IsAt g birth b0 b classes
   pub empty : (r : Rank) (id : ℕ) → IsHeld classes r id → ⊥
+
+-- the lists of these ids
+abbrev pub ListedIn : Book → List ℕ → List ℕ → Type 0
+ListedIn b ids p = (w : ℕ) × Contains ids w × (list_of b.arena w ≡ p)
 
 -- the class of cl is taken, and these are its winners, in the order of their pairs; none is promoted yet
 pub record IsTaken (g : Graph) (birth : ℕ) (b0 : Book) (cl : List ℕ) (winners : List ℕ) (b : Book) (c : Classes) : Type 0 where

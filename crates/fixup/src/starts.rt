@@ -1,14 +1,17 @@
 //! What is done before the first class.
 
-ghost use Rattle.std.specs.Prelude.{◌≡◌, ℕ, ◌<◌, ◌∷◌, [], Some, OnOk, OnErr};
+ghost use Rattle.std.specs.Prelude.{◌≡◌, ℕ, ◌<◌, ◌∷◌, [], Some, OnOk, OnErr, Contains};
 ghost use Rattle.apsp_model.specs.Graph.{weight_at};
 ghost use Rattle.apsp_model.specs.Settled.{IsReady};
+ghost use Rattle.apsp_model.specs.Walk.{IsOnceEach};
+ghost use Rattle.path_arena.specs.Arena.{IsLive};
 ghost use Rattle.path_book.specs.Book.{IsBook, IsNewList, kept_paths};
 ghost use Rattle.fixup.specs.Starts.{IsEdgeFormed};
 ghost use Rattle.fixup.specs.Growth.{AreHeadsQueued, IsEdging, IsQueueing};
 
 use apsp_model::Memory;
 use graph_store::Graph;
+use path_arena::{Arena, PathId};
 use path_book::Book;
 use std::alloc::Global;
 use weight_classes::Classes;
@@ -55,14 +58,23 @@ pub(crate) fn queue_heads(
     book: &mut Book,
     classes: &mut Classes,
 ) -> Result<(), Memory>
-    requires start { IsQueueing book.old [] classes.old }
+    requires start { IsQueueing book.old.arena [] classes.old }
     ensures same { book.new ≡ book.old }
     ensures queued { OnOk result (AreHeadsQueued book.old classes.new) }
 {
     let mut heads = Vec::new(alloc);
     book.pending_leasts(&mut heads)?;
-    let arena = book.arena();
-    'heads: for &id in &heads {
+    hold_all(book.arena(), classes, &heads)
+}
+
+/// Holds these paths.
+fn hold_all(arena: &Arena, classes: &mut Classes, heads: &[PathId]) -> Result<(), Memory>
+    requires start { IsQueueing arena.now [] classes.old }
+    requires live { (id : ℕ) → Contains heads.now id → IsLive arena.now id }
+    requires once { IsOnceEach heads.now }
+    ensures held { OnOk result (IsQueueing arena.now heads.now classes.new) }
+{
+    'heads: for &id in heads {
         classes.push(arena, id)?;
     }
     Ok(())
