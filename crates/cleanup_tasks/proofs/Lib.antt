@@ -1,3 +1,3 @@
 pub mod Parents
-pub mod Queue
+pub mod Levels
 pub mod Cleaning

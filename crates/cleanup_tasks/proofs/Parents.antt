@@ -243,6 +243,11 @@ module _ (b : Book) (was : IsBook b) where
       let of : list_of b.arena (vertex_of b.arena v) ≡ v ∷ [] = ap (λ p. p.list) (path_of_at b.arena (vertex_of b.arena v) (single v) (was.arena.singles v l)) in
       ((live_from b.arena (vertex_of b.arena v) (single v) (was.arena.singles v l), subst (λ xs. Contains xs v) (sym of) (head_in v v [] refl)), omega (arith, ap length of))
 
+  pub single_starts : (v : ℕ) → v < b.arena.vertices → starts_at b v (vertex_of b.arena v) ≡ true
+  single_starts v l =
+      let of : list_of b.arena (vertex_of b.arena v) ≡ v ∷ [] = ap (λ p. p.list) (path_of_at b.arena (vertex_of b.arena v) (single v) (was.arena.singles v l)) in
+      begins_from (list_of b.arena (vertex_of b.arena v)) v (ap first of)
+
   pub some_hops : (v id : ℕ) → IsThrough b v id → 1 ≤ hops_at b id
   some_hops v id through = let long : 1 < length (list_of b.arena id) = long_of_edge b.arena id was.arena through.0 in omega arith
 

@@ -1,5 +1,6 @@
 -- The walk along the extensions of paths. No public clause cites this module.
-use Rattle.std.specs.Prelude.{ℕ, Bool, false, ◌==◌, if◌then◌else◌, List, [], ◌∷◌, ◌++◌}
+use Rattle.std.specs.Prelude.{◌≡◌, ℕ, Bool, false, ◌==◌, if◌then◌else◌, List, [], ◌∷◌, ◌++◌, Contains}
+use Rattle.apsp_model.specs.Walk.{IsOnceEach}
 use Rattle.path_arena.specs.Arena.{list_of}
 use Rattle.extension_lists.specs.Known.{sides_at}
 use Rattle.path_book.specs.Book.{Book}
@@ -15,3 +16,20 @@ starts_at b v id = begins_with (list_of b.arena id) v
 -- the paths that are one edge longer and have the path of the id as their parent: all that go on in front, and, where it starts at v, all that go on behind
 abbrev pub longer_of : Book → ℕ → ℕ → List ℕ
 longer_of b v id = (sides_at b.lists id).left ++ (if starts_at b v id then (sides_at b.lists id).right else [])
+
+-- what goes on in front of the paths of a list, and behind them
+abbrev pub lefts_of : Book → List ℕ → List ℕ
+lefts_of b [] = []
+lefts_of b (id ∷ ids) = (sides_at b.lists id).left ++ lefts_of b ids
+
+abbrev pub rights_of : Book → List ℕ → List ℕ
+rights_of b [] = []
+rights_of b (id ∷ ids) = (sides_at b.lists id).right ++ rights_of b ids
+
+-- behind the first paths and in front of all go these
+pub record IsLonger (b : Book) (starting passing behind in_front : List ℕ) : Type 0 where
+  pub rights : behind ≡ rights_of b starting
+  pub lefts : in_front ≡ lefts_of b starting ++ lefts_of b passing
+  pub right_once : (p : ℕ) → Contains starting p → IsOnceEach (sides_at b.lists p).right
+  pub starting_once : (p : ℕ) → Contains starting p → IsOnceEach (sides_at b.lists p).left
+  pub passing_once : (p : ℕ) → Contains passing p → IsOnceEach (sides_at b.lists p).left

@@ -1,12 +1,12 @@
 //! The search for the kept paths through a vertex.
 
-ghost use Rattle.std.specs.Prelude.{◌≡◌, ◌<◌, ◌≤◌, ◌++◌, IfOk, OnOk};
+ghost use Rattle.std.specs.Prelude.{◌≡◌, ℕ, ◌<◌, ◌≤◌, ◌+◌, ◌++◌, [], length, false, IfOk, OnOk, Contains, IsTrue};
 ghost use Rattle.path_arena.specs.Arena.{IsLive};
 ghost use Rattle.apsp_model.specs.Walk.{IsOnceEach};
 ghost use Rattle.extension_lists.specs.Known.{sides_at};
 ghost use Rattle.path_book.specs.Book.{IsBook};
 ghost use Rattle.cleanup_tasks.specs.Victims.{IsVictims};
-ghost use Rattle.cleanup_tasks.specs.Walk.{longer_of};
+ghost use Rattle.cleanup_tasks.specs.Walk.{lefts_of, rights_of, IsLonger};
 
 use crate::listed::Victims;
 use apsp_io::{Gate, TASK};
@@ -15,6 +15,7 @@ use path_arena::PathId;
 use path_book::Book;
 use std::alloc::Global;
 use std::marker::Sync;
+use std::mem;
 use std::thread::Threads;
 
 /// Finds each kept path through v that has an edge. It takes time in proportion to their number.
@@ -22,7 +23,7 @@ use std::thread::Threads;
 /// The parent of such a path is the path without its last vertex where it starts at v, and the path
 /// without its first vertex otherwise. So the walk from the single vertex to the children of each
 /// path comes to each once, level by level. It works in the caller's thread, and passes the gate
-/// before each edge at v.
+/// for each edge at v.
 pub fn victims<R: Threads + Sync, G: Gate>(
     _rt: &R,
     alloc: Global,
@@ -37,32 +38,128 @@ pub fn victims<R: Threads + Sync, G: Gate>(
     ensures vertex { IfOk result (λ list. list.vertex ≡ v) }
     ensures all { IfOk result (λ list. IsVictims book.now v list.ids) }
 {
-    let mut ids = Vec::new(alloc);
-    push_longer(book, v, book.arena().vertex(v), &mut ids)?;
-    let mut at = 0;
-    'walk: while at < ids.len() {
-        let id = ids[at];
-        if book.arena().hops(id) == 1 {
-            gate.pass(0, TASK);
-        }
-        push_longer(book, v, id, &mut ids)?;
-        at += 1;
-    }
+    let ids = walk(alloc, book, v, gate)?;
     Ok(Victims::new(v, ids))
 }
 
-/// Puts the children of a path through v behind the ids.
-fn push_longer(book: &Book, v: u32, id: PathId, ids: &mut Vec<PathId>) -> Result<(), Memory>
-    requires { IsLive book.now.arena id }
-    ensures longer { OnOk result (ids.new.items ≡ ids.old.items ++ longer_of book.now v id) }
-    ensures in_front_once { IsOnceEach (sides_at book.now.lists id).left }
-    ensures behind_once { IsOnceEach (sides_at book.now.lists id).right }
+/// The paths of a level, which have equally many edges: those that start at v, and the others. What
+/// goes on behind the first starts at v, and what goes on in front of any does not. So no path is
+/// looked at.
+#[derive(Drop)]
+struct Level {
+    starting: Vec<PathId>,
+    passing: Vec<PathId>,
+}
+
+impl Level {
+    fn new(alloc: Global) -> Level {
+        Level {
+            starting: Vec::new(alloc),
+            passing: Vec::new(alloc),
+        }
+    }
+
+    fn is_empty(&self) -> bool
+        ensures none { IsTrue result → (self.now.starting.items ≡ []) × (self.now.passing.items ≡ []) }
+        ensures some { result ≡ false → 1 ≤ length self.now.starting.items + length self.now.passing.items }
+    {
+        self.starting.is_empty() && self.passing.is_empty()
+    }
+}
+
+/// The kept paths through v that have an edge, level by level.
+fn walk<G: Gate>(alloc: Global, book: &Book, v: u32, gate: &G) -> Result<Vec<PathId>, Memory>
+    requires vertex { v < book.now.arena.vertices }
+    ensures all { IfOk result (λ ids. IsVictims book.now v ids.items) }
+{
+    let (mut level, mut next) = (Level::new(alloc), Level::new(alloc));
+    longer(book, &[book.arena().vertex(v)], &[], &mut level)?;
+    pass_tasks(level.starting.len(), gate);
+    pass_tasks(level.passing.len(), gate);
+    let mut ids = Vec::new(alloc);
+    push_level(&level, &mut ids)?;
+    'levels: while !level.is_empty() {
+        longer(book, &level.starting, &level.passing, &mut next)?;
+        mem::swap(&mut level, &mut next);
+        push_level(&level, &mut ids)?;
+    }
+    Ok(ids)
+}
+
+/// Passes the gate for so many tasks.
+fn pass_tasks<G: Gate>(tasks: usize, gate: &G) {
+    for _ in 0..tasks {
+        gate.pass(0, TASK);
+    }
+}
+
+/// Puts the paths of a level behind the ids.
+fn push_level(level: &Level, ids: &mut Vec<PathId>) -> Result<(), Memory>
+    ensures { OnOk result (ids.new.items ≡ ids.old.items ++ (level.now.starting.items ++ level.now.passing.items)) }
+{
+    ids.extend_from_slice(&level.starting).map_err(|_| Memory)?;
+    ids.extend_from_slice(&level.passing).map_err(|_| Memory)
+}
+
+/// Makes the next level of the children of paths that start at v and of others.
+fn longer(
+    book: &Book,
+    starting: &[PathId],
+    passing: &[PathId],
+    next: &mut Level,
+) -> Result<(), Memory>
+    requires starting { (id : ℕ) → Contains starting.now id → IsLive book.now.arena id }
+    requires passing { (id : ℕ) → Contains passing.now id → IsLive book.now.arena id }
+    ensures longer { OnOk result (IsLonger book.now starting.now passing.now next.new.starting.items next.new.passing.items) }
     ensures lawful { IsBook book.now }
 {
-    let (in_front, behind) = (book.lists().left(id), book.lists().right(id));
-    ids.extend_from_slice(in_front).map_err(|_| Memory)?;
-    if book.arena().first(id) == v {
-        ids.extend_from_slice(behind).map_err(|_| Memory)?;
+    // A reader tells what holds of every book.
+    let _ = book.arena();
+    next.starting.clear();
+    next.passing.clear();
+    push_rights(book, starting, &mut next.starting)?;
+    push_lefts(book, starting, &mut next.passing)?;
+    push_lefts(book, passing, &mut next.passing)
+}
+
+/// Puts the paths that go on behind those of a list behind the ids.
+fn push_rights(book: &Book, list: &[PathId], ids: &mut Vec<PathId>) -> Result<(), Memory>
+    requires live { (id : ℕ) → Contains list.now id → IsLive book.now.arena id }
+    ensures items { OnOk result (ids.new.items ≡ ids.old.items ++ rights_of book.now list.now) }
+    ensures once { OnOk result ((p : ℕ) → Contains list.now p → IsOnceEach (sides_at book.now.lists p).right) }
+{
+    'list: for &path in list {
+        push_right(book, path, ids)?;
     }
     Ok(())
+}
+
+fn push_right(book: &Book, path: PathId, ids: &mut Vec<PathId>) -> Result<(), Memory>
+    requires { IsLive book.now.arena path }
+    ensures items { OnOk result (ids.new.items ≡ ids.old.items ++ (sides_at book.now.lists path).right) }
+    ensures once { IsOnceEach (sides_at book.now.lists path).right }
+{
+    ids.extend_from_slice(book.lists().right(path))
+        .map_err(|_| Memory)
+}
+
+/// Puts the paths that go on in front of those of a list behind the ids.
+fn push_lefts(book: &Book, list: &[PathId], ids: &mut Vec<PathId>) -> Result<(), Memory>
+    requires live { (id : ℕ) → Contains list.now id → IsLive book.now.arena id }
+    ensures items { OnOk result (ids.new.items ≡ ids.old.items ++ lefts_of book.now list.now) }
+    ensures once { OnOk result ((p : ℕ) → Contains list.now p → IsOnceEach (sides_at book.now.lists p).left) }
+{
+    'list: for &path in list {
+        push_left(book, path, ids)?;
+    }
+    Ok(())
+}
+
+fn push_left(book: &Book, path: PathId, ids: &mut Vec<PathId>) -> Result<(), Memory>
+    requires { IsLive book.now.arena path }
+    ensures items { OnOk result (ids.new.items ≡ ids.old.items ++ (sides_at book.now.lists path).left) }
+    ensures once { IsOnceEach (sides_at book.now.lists path).left }
+{
+    ids.extend_from_slice(book.lists().left(path))
+        .map_err(|_| Memory)
 }

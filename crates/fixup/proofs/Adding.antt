@@ -1,12 +1,12 @@
 -- Lists of joins that grow, partner by partner and winner by winner.
-use Rattle.std.specs.Prelude.{◌≡◌, ℕ, Some, ◌+◌, ◌<◌, ◌≤◌, ◌⊎◌, ◌↔◌, zero, suc, List, [], ◌∷◌, ◌++◌, length, take, refl, Contains}
+use Rattle.std.specs.Prelude.{◌≡◌, ℕ, Some, ◌+◌, ◌<◌, ◌≤◌, ◌⊎◌, ◌↔◌, zero, suc, List, [], ◌∷◌, ◌++◌, length, take, slice_index, refl, Contains}
 use Rattle.std.specs.declared.cmp.Ordering.{Ordering}
 use Rattle.std.specs.declared.cmp.Ordering.TheVariants.{Less, Equal, Greater}
 use Rattle.std.specs.Ordering.{nat_cmp, ordering_then, ordering_reverse}
 use Rattle.std.proofs.Common.{sym, ◌∙◌, ap, subst, arith, inl, inr, get_or}
 use Rattle.std.proofs.lemmas.Bool.{cases_eq}
-use Rattle.std.proofs.lemmas.List.{take_more, take_all, append_assoc}
-use Rattle.std.proofs.lemmas.List.Elements.{Contains-push, Contains-push_cases, Contains-append_left, Contains-append_right, Contains-append_cases}
+use Rattle.std.proofs.lemmas.List.{take_more, take_all, append_assoc, get_or_default}
+use Rattle.std.proofs.lemmas.List.Elements.{Contains-push_cases, Contains-append_left, Contains-append_right, Contains-append_cases}
 use Rattle.std.proofs.lemmas.Map.Lookups.{exact_bytes}
 use Rattle.apsp_model.specs.Walk.{IsOnceEach, hops_of}
 use Rattle.fixup_math.proofs.Counting.{in_cons, in_nil, head_in, tail_in, once_append}
@@ -17,7 +17,7 @@ use Rattle.path_book.specs.Book.{Book, IsMarked, IsBook}
 use Rattle.fixup.specs.declared.listing.Join.{Join}
 use Rattle.fixup.specs.declared.listing.Side.{Side}
 use Rattle.fixup.specs.declared.listing.Side.TheVariants.{Left, Right}
-use Rattle.fixup.specs.Owing.{AreAdded, AreOwed, ArePromoted, IsOwed, Lists, ListsFrom, Yields, join_at}
+use Rattle.fixup.specs.Owing.{AreAdded, AreOwed, ArePromoted, IsOwed, Lists, ListsFrom, ListsAt, Class, Yields, join_at}
 
 -- ---- lists without repetitions
 
@@ -93,6 +93,16 @@ added_one old new j is = record {
   once = (in_nil j, tt);
   are = λ k. (λ c. elim (in_cons k j [] c) [ inl same ↦ sym same | inr none ↦ absurd (in_nil k none) ], λ same. head_in k j [] (sym same));
 }
+
+-- a list by itself, put behind what was listed before
+pub added_behind : (P : Join → Type 0) (old list new : List Join) → AreAdded P [] list → new ≡ old ++ list → AreAdded P old new
+added_behind P old list new a is = record { more = a.more; is = is ∙ ap (λ l. old ++ l) a.is; once = a.once; are = a.are }
+
+-- what a task lists of a class, seen as its book and its winners
+pub task_listed : (seen : Class) (b : Book) (winners : List ℕ) (k d : ℕ) (old joins : List Join) → record { book = b; winners = winners } ≡ seen → k < length winners → old ≡ [] → AreAdded (Lists b winners (get_or winners k d)) old joins → ListsAt seen k joins
+task_listed seen b winners k d old joins is inside none added =
+    subst (λ (c : Class). ListsAt c k joins) is
+    (subst (λ w. AreAdded (Lists b winners w) [] joins) (get_or_default winners k d 0 inside) (subst (λ xs. AreAdded (Lists b winners (get_or winners k d)) xs joins) none added))
 
 -- ---- the partners on one side
 
@@ -213,6 +223,12 @@ module _ (b : Book) (winners : List ℕ) where
       taken [] (suc k) q c = c
       taken (x ∷ xs) zero q c = absurd (in_nil q c)
       taken (x ∷ xs) (suc k) q c = elim (in_cons q x (take k xs) c) [ inl same ↦ head_in q x (take (length xs) xs) same | inr more ↦ tail_in q x (take (length xs) xs) (taken xs k q more) ]
+
+  -- the list of the winner's task is put behind those of the winners before it
+  pub task_more : IsOnceEach winners → (i : ℕ) → i < length winners → (mid list new : List Join) → AreAdded (ListedBy i) [] mid → ListsAt (record { book = b; winners = winners }) i list → new ≡ mid ++ list → AreAdded (ListedBy (i + 1)) [] new
+  task_more once i inside mid list new before given is =
+      let w : ℕ = slice_index winners i in
+      all_more once i w inside (sym (get_or_default winners i w 0 inside)) [] mid new before (added_behind (Lists b winners w) mid list new given is)
 
   -- of two halves that are winners one is below the other
   ordered : IsBook b → (l r : ℕ) → IsMarked b l → IsMarked b r → (l ≡ r → ⊥) → (id_cmp b.arena l r ≡ Less) ⊎ (id_cmp b.arena r l ≡ Less)

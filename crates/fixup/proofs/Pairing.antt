@@ -1,10 +1,9 @@
 -- The joins of a class, pair by pair, as the calls make them.
-use Rattle.std.specs.FinSet as set
-use Rattle.std.specs.Prelude.{◌≡◌, ◌≢◌, ℕ, ◌+◌, ◌-◌, ◌<◌, ◌≤◌, ◌⊎◌, ◌↔◌, List, [], ◌∷◌, ◌++◌, length, Some, None, is_some, unwrap_or, option_to_list, refl, Contains}
+use Rattle.std.specs.Prelude.{◌≡◌, ◌≢◌, ℕ, ◌+◌, ◌-◌, ◌<◌, ◌≤◌, ◌⊎◌, List, [], ◌∷◌, ◌++◌, length, Some, None, is_some, unwrap_or, option_to_list, refl, Contains}
 use Rattle.std.proofs.Common.{sym, ◌∙◌, ap, subst, arith, inl, inr}
 use Rattle.std.proofs.lemmas.List.Elements.{Contains-append_left, Contains-push, Contains-push_cases}
 use Rattle.apsp_model.specs.Graph.{Graph}
-use Rattle.apsp_model.specs.Walk.{IsSimple, IsWalk, weight_of, first, last}
+use Rattle.apsp_model.specs.Walk.{IsWalk, weight_of, first, last}
 use Rattle.apsp_model.specs.Part.{left_part, right_part}
 use Rattle.apsp_model.specs.Local.{IsLocal}
 use Rattle.apsp_model.proofs.Lists.{ends_differ, length_right}

@@ -13,7 +13,7 @@ use Rattle.path_book.specs.Book.{Book, IsMarked, IsBook, IsLeastKept, with_kept}
 use Rattle.pair_heaps.specs.Heaps.{HasEnds}
 use Rattle.weight_classes.specs.Classes.{Classes, Rank, Fits, IsHeld, IsPushed, IsWon}
 use Rattle.fixup_math.proofs.Promotions.{IsJoin, Then}
-use Rattle.fixup_math.proofs.Counting.{in_cons, in_nil, head_in, tail_in}
+use Rattle.fixup_math.proofs.Counting.{in_nil}
 use Rattle.fixup_math.proofs.Ranks.{IsRank, ByWeightThenHops, weight_then_hops_is_rank}
 use Rattle.fixup_math.proofs.Firsts.{IsLeastKept as IsLeastKeptOf}
 use Rattle.fixup_math.proofs.Forming.{IsForming as IsFormingOf, forming_starts, forms_pushed, forms_unpushed, contains_push}
@@ -26,7 +26,7 @@ use Rattle.fixup.proofs.Growth.{grown_with, id_weight}
 use Rattle.fixup.proofs.Held.{held_pushed}
 use Rattle.fixup.specs.Views.{HeldIn, Kept, Marked, WonIn}
 use Rattle.fixup.specs.Owing.{IsPromoted}
-use Rattle.fixup.specs.Growth.{IsAt, IsTaken, IsDone, IsGrown, IsForming, ListedIn}
+use Rattle.fixup.specs.Growth.{IsTaken, IsDone, IsGrown, IsForming, ListedIn}
 
 -- the least kept path of a book is the least one of the graph's order
 pub least_kept : (g : Graph) (birth : ℕ) (b0 b : Book) → IsGrown g birth b0 b → ((p : List ℕ) → Kept b p → IsWalk g p) → (x y id : ℕ) → IsLeastKept b x y id → IsLeastKeptOf g (Kept b) x y (list_of b.arena id)

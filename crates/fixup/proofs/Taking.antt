@@ -1,5 +1,5 @@
 -- Winner by winner and pair by pair, as the loops take them.
-use Rattle.std.specs.Prelude.{◌≡◌, ℕ, ◌+◌, ◌<◌, ◌≤◌, ◌⊎◌, ◌↔◌, List, [], ◌∷◌, ◌++◌, Contains, refl}
+use Rattle.std.specs.Prelude.{◌≡◌, ℕ, ◌+◌, ◌<◌, ◌≤◌, List, [], ◌∷◌, Contains, refl}
 use Rattle.std.proofs.Common.{sym, ◌∙◌, ap, subst, take, get_or, length, inl, inr}
 use Rattle.std.proofs.lemmas.List.{take_all}
 use Rattle.apsp_model.specs.Walk.{IsOnceEach, first, last}

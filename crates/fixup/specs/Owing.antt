@@ -1,9 +1,10 @@
 -- The joins that a class owes, and who lists each.
-use Rattle.std.specs.Prelude.{◌≡◌, ℕ, ◌⊎◌, ◌↔◌, List, ◌++◌, Contains}
+use Rattle.std.specs.Prelude.{◌≡◌, ℕ, ◌⊎◌, ◌↔◌, List, [], ◌++◌, Contains, slice_index, refl}
+use Rattle.std.specs.Coded.{Coded, code_by, coded×, coded_ℕ, coded_list}
 use Rattle.std.specs.declared.cmp.Ordering.TheVariants.{Less}
 use Rattle.apsp_model.specs.Walk.{IsOnceEach}
 use Rattle.path_arena.specs.Arena.{Arena, left_of, right_of, HasAnEdge, id_cmp}
-use Rattle.path_book.specs.Book.{Book, IsMarked, IsBook}
+use Rattle.path_book.specs.Book.{Book, book_code, IsMarked, IsBook}
 use Rattle.weight_classes.specs.Classes.{InOrder}
 use Rattle.fixup.specs.declared.listing.Join.{Join}
 use Rattle.fixup.specs.declared.listing.Side.{Side}
@@ -22,6 +23,14 @@ pub record ArePromoted (b : Book) (winners : List ℕ) : Type 0 where
   pub marked : (w : ℕ) → Contains winners w → IsMarked b w
   pub edge : (w : ℕ) → Contains winners w → HasAnEdge b.arena w
   pub apart : (w : ℕ) → Contains winners w → right_of b.arena w ≡ left_of b.arena w → ⊥
+
+-- a book, and the winners of a class of it
+pub record Class : Type 0 where
+  pub book : Book
+  pub winners : List ℕ
+
+abbrev pub class_code : Coded Class
+class_code = code_by (Book × List ℕ) (coded× book_code (coded_list coded_ℕ)) (λ c. (c.book, c.winners)) (λ t. record { book = t.0; winners = t.1 }) (λ _. refl)
 
 -- two historical paths that overlap in all but their outer vertices, of which the class promoted at least one
 pub record IsOwed (b : Book) (winners : List ℕ) (j : Join) : Type 0 where
@@ -61,3 +70,7 @@ pub record AreAdded (P : Join → Type 0) (old new : List Join) : Type 0 where
   pub is : new ≡ old ++ more
   pub once : IsOnceEach more
   pub are : (j : Join) → Contains more j ↔ P j
+
+-- the task of the winner at place k gives this list
+abbrev pub ListsAt : Class → ℕ → List Join → Type 0
+ListsAt c k joins = AreAdded (Lists c.book c.winners (slice_index c.winners k)) [] joins

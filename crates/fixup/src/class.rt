@@ -9,29 +9,32 @@ ghost use Rattle.fixup.specs.Joining.{IsJoined};
 ghost use Rattle.fixup.specs.Owing.{IsPromoted};
 ghost use Rattle.fixup.specs.Stages.{Stage, IsTakenAt, IsDoneAt, IsJoiningAt, AreOwedAt, IsClassReady, AreJoinsReady};
 
-use crate::listing::{Join, list_joins};
+use crate::listing::Join;
+use crate::tasks::{Crew, list_joins};
 use apsp_io::Gate;
 use apsp_model::Memory;
 use path_arena::PathId;
 use path_book::Book;
+use std::marker::Sync;
+use std::thread::Threads;
 use weight_classes::Classes;
 
 /// Settles a class that was taken: makes its winners historical, and keeps the joins that they owe.
 /// `joins` is room that is used again.
-pub(crate) fn settle_class<G: Gate>(
+pub(crate) fn settle_class<R: Threads + Sync, G: Gate>(
+    crew: &Crew<'_, R, G>,
     book: &mut Book,
     classes: &mut Classes,
     joins: &mut Vec<Join>,
     winners: &[PathId],
     birth: u64,
-    gate: &G,
 ) -> Result<(), Memory>
     requires ready { IsClassReady birth winners.now book.old classes.old }
     ensures done { OnOk result ((s : Stage) → IsTakenAt s birth winners.now book.old classes.old → IsDoneAt s birth book.new classes.new) }
     ensures lawful { OnErr result (IsBook book.new) }
 {
     promote_all(book, winners)?;
-    list_joins(book, winners, joins, gate)?;
+    list_joins(crew, book, winners, joins)?;
     keep_joins(book, classes, joins, birth)
 }
 

@@ -46,7 +46,7 @@ impl Side {
 
 /// Lists the joins that the promoted winners of a class owe, each once: of two historical paths, of
 /// which one is a winner or both are. Each is listed by one winner, for which the gate is passed.
-pub(crate) fn list_joins<G: Gate>(
+pub(crate) fn list_alone<G: Gate>(
     book: &Book,
     winners: &[PathId],
     joins: &mut Vec<Join>,
@@ -65,7 +65,7 @@ pub(crate) fn list_joins<G: Gate>(
 
 /// Lists the joins of a winner with the partners that were historical before the class, and with
 /// the winners below it.
-fn list_winner(
+pub(crate) fn list_winner(
     book: &Book,
     winners: &[PathId],
     winner: PathId,
@@ -93,8 +93,9 @@ fn list_side(
 ) -> Result<(), Memory>
     requires order { InOrder arena.now winners.now }
     requires live { (w : ℕ) → Contains winners.now w → IsLive arena.now w }
-    requires one { IsLive arena.now winner }
+    requires one { Contains winners.now winner }
     requires all { (q : ℕ) → Contains partners.now q → IsLive arena.now q }
+    requires apart { (q : ℕ) → Contains partners.now q → q ≡ winner → ⊥ }
     requires once { IsOnceEach partners.now }
     ensures listed { OnOk result (AreAdded (ListsFrom arena.now winners.now winner side partners.now) joins.old.items joins.new.items) }
 {
@@ -108,15 +109,19 @@ fn list_side(
     Ok(())
 }
 
-/// Whether a winner lists its join with a partner: where that is no winner, or one below it.
+/// Whether a winner lists its join with a partner: where that is no winner, or one below it. No
+/// partner of the only winner of a class is a winner.
 fn lists(arena: &Arena, winners: &[PathId], winner: PathId, partner: PathId) -> bool
     requires order { InOrder arena.now winners.now }
     requires live { (w : ℕ) → Contains winners.now w → IsLive arena.now w }
-    requires one { IsLive arena.now winner }
+    requires one { Contains winners.now winner }
     requires other { IsLive arena.now partner }
+    requires apart { partner ≡ winner → ⊥ }
     ensures { IsTrue result ↔ Yields arena.now winners.now winner partner }
 {
-    !is_winner(arena, winners, partner) || arena.compare(partner, winner).is_lt()
+    winners.len() == 1
+        || !is_winner(arena, winners, partner)
+        || arena.compare(partner, winner).is_lt()
 }
 
 /// Whether an id is among the winners, which stand in the order of their pairs.

@@ -1,6 +1,7 @@
 //! The engine on a small network, with and without smoothing.
 
-ghost use Rattle.std.specs.Prelude.{◌≡◌, ◌<◌, ◌≤◌, ◌+◌, false, length, IfOk, OnOk};
+ghost use Rattle.std.specs.Prelude.{◌≡◌, ◌<◌, ◌≤◌, All, length, IfOk};
+ghost use Rattle.graph_store.specs.Making.{IsVertexCount};
 
 use crate::{Change, Counts, Engine};
 use apsp_io::OpenGate;
@@ -12,120 +13,213 @@ use std::test::Fail;
 use std::thread::Threads;
 use version_face::{NO_DISTANCE, NO_HOPS, NO_NEXT, Version};
 
-/// Three vertices, with an edge from 0 to 2 and then a lighter way by 1.
-fn two_stars<R: Threads + Sync>(rt: &R, alloc: Global, smooth: bool) -> Result<Engine, Fail>
-    ensures opening { IfOk result (λ e. e.opening ≡ 3) }
-    ensures number { IfOk result (λ e. length e.vertices ≡ 2) }
-    ensures not_spent { IfOk result (λ e. e.spent ≡ false) }
+/// The ends of an edge, and its weight.
+type Edge = (u32, u32, u64);
+
+/// The star of v with these edges.
+fn star_with(alloc: Global, n: u32, v: u32, edges: &[Edge]) -> Result<Star, Fail>
+    requires count { IsVertexCount n }
+    ensures vertices { IfOk result (λ s. s.vertices ≡ n) }
 {
+    let mut star = Star::new(alloc, n, v)?;
+    'edges: for &edge in edges {
+        put_edge(&mut star, edge)?;
+    }
+    Ok(star)
+}
+
+fn put_edge(star: &mut Star, edge: Edge) -> Result<(), Fail>
+    ensures vertices { star.new.vertices ≡ star.old.vertices }
+{
+    let (from, to, weight) = edge;
+    if from == star.vertex() {
+        star.set_out(to, weight)?;
+    } else {
+        star.set_in(from, weight)?;
+    }
+    Ok(())
+}
+
+/// An update: the edges at v are these.
+fn put<R: Threads + Sync>(
+    rt: &R,
+    alloc: Global,
+    engine: &mut Engine,
+    v: u32,
+    edges: &[Edge],
+) -> Result<Change, Fail> {
+    if engine.number() >= 1 << 40 {
+        return Err(Fail::from("too many updates"));
+    }
+    let star = star_with(alloc, engine.vertices(), v, edges)?;
+    let change = engine.star(rt, &star, 1, &OpenGate)?;
+    Ok(change)
+}
+
+/// Three vertices, with an edge from 0 to 2 and then a lighter way by 1.
+fn two_stars<R: Threads + Sync>(rt: &R, alloc: Global, smooth: bool) -> Result<Engine, Fail> {
     let mut engine = Engine::new(alloc, 3, smooth)?;
-    let mut star = Star::new(alloc, 3, 0)?;
-    star.set_out(1, 4)?;
-    star.set_out(2, 9)?;
-    engine.star(rt, &star, 1, &OpenGate)?;
-    let mut star = Star::new(alloc, 3, 1)?;
-    star.set_out(2, 3)?;
-    star.set_in(0, 4)?;
-    engine.star(rt, &star, 1, &OpenGate)?;
+    put(rt, alloc, &mut engine, 0, &[(0, 1, 4), (0, 2, 9)])?;
+    put(rt, alloc, &mut engine, 1, &[(0, 1, 4), (1, 2, 3)])?;
     Ok(engine)
+}
+
+/// What an engine that is not spent did and keeps.
+fn counts(engine: &Engine) -> Option<Counts> {
+    if engine.is_spent() {
+        None
+    } else {
+        Some(engine.counts())
+    }
+}
+
+/// The birth of a list that is kept.
+fn birth(engine: &Engine, list: &[u32]) -> Option<u64> {
+    let n = engine.vertices();
+    'list: for &v in list {
+        if v >= n {
+            return None;
+        }
+    }
+    if list.is_empty() || engine.is_spent() {
+        return None;
+    }
+    engine.birth(list)
+}
+
+/// The weight of an edge.
+fn weight(engine: &Engine, u: u32, v: u32) -> Option<u32> {
+    let n = engine.vertices();
+    if u >= n || v >= n {
+        return None;
+    }
+    engine.graph().weight(u, v)
+}
+
+/// The least walk of a pair: its weight, its edges, whether it is historical, and whether it is the
+/// list.
+fn least(engine: &Engine, x: u32, y: u32, list: [u32; 2]) -> Option<(u64, u32, bool, bool)> {
+    let n = engine.vertices();
+    if x >= n || y >= n || engine.is_spent() {
+        return None;
+    }
+    let least = engine.least(x, y)?;
+    let historical = engine.book().is_historical(least.id());
+    let same = least.vertices().eq(list);
+    Some((least.weight(), least.hops(), historical, same))
+}
+
+/// The version of an engine that is not spent.
+fn version_of(alloc: Global, engine: &Engine) -> Result<Version, Fail> {
+    if engine.is_spent() {
+        return Err(Fail::from("the engine is spent"));
+    }
+    let mut version = Version::new(alloc, engine.vertices())?;
+    // Read for what it says of the graph: that it has as many vertices.
+    let _ = engine.graph();
+    engine.fill(&mut version);
+    Ok(version)
+}
+
+/// Whether a version has these rows for x.
+fn are_rows(version: &Version, x: u32, dist: &[u64], hops: &[u32], next: &[u32]) -> bool {
+    x < version.vertices()
+        && version.dist_row(x) == dist
+        && version.hops_row(x) == hops
+        && version.next_row(x) == next
+}
+
+/// Whether the walk of a pair in a version is the list.
+fn is_walk(version: &Version, x: u32, y: u32, list: [u32; 3]) -> bool {
+    let n = version.vertices();
+    x < n && y < n && version.walk(x, y).eq(list)
+}
+
+/// The weight of an edge of a version.
+fn weight_in(version: &Version, u: u32, v: u32) -> Option<u32> {
+    let n = version.vertices();
+    if u >= n || v >= n {
+        return None;
+    }
+    version.weight(u, v)
+}
+
+#[test]
+fn counts_of_two_updates(rt: HostRuntime) -> Result<(), Fail> {
+    let engine = two_stars(&rt, rt.alloc(), false)?;
+    let wanted = Counts {
+        updates: 2,
+        steps: 2,
+        paths: 4,
+        historical: 4,
+        formed: 3,
+        removed: 1,
+    };
+    assert_eq!(rt; counts(&engine), Some(wanted));
+    Ok(())
 }
 
 #[test]
 fn a_path_outlives_what_was_lighter(rt: HostRuntime) -> Result<(), Fail> {
     let mut engine = two_stars(&rt, rt.alloc(), false)?;
-    assert_eq!(rt;
-        engine.counts(),
-        Counts {
-            updates: 2,
-            steps: 2,
-            paths: 4,
-            historical: 4,
-            formed: 3,
-            removed: 1
-        }
-    );
-    let star = Star::new(rt.alloc(), 3, 1)?;
-    let change = engine.star(&rt, &star, 1, &OpenGate)?;
-    assert_eq!(rt;
-        change,
-        Change {
-            number: 3,
-            steps: 1,
-            formed: 0,
-            removed: 3
-        }
-    );
-    assert!(rt; !engine.is_spent());
-    assert_eq!(rt;
-        (
-            engine.number(),
-            engine.vertices(),
-            engine.graph().weight(0, 2)
-        ),
-        (3, 3, Some(9))
-    );
-    assert_eq!(rt;
-        (
-            engine.birth(&[0, 2]),
-            engine.birth(&[0, 1]),
-            engine.birth(&[1])
-        ),
-        (Some(1), None, Some(0))
-    );
-    assert!(rt; engine.least(2, 0).is_none());
-    let Some(least) = engine.least(0, 2) else {
-        return Err(Fail::from("no walk from 0 to 2"));
+    let change = put(&rt, rt.alloc(), &mut engine, 1, &[])?;
+    let wanted = Change {
+        number: 3,
+        steps: 1,
+        formed: 0,
+        removed: 3,
     };
-    assert_eq!(rt;
-        (
-            least.weight(),
-            least.hops(),
-            engine.book().is_historical(least.id())
-        ),
-        (9, 1, true)
-    );
-    assert!(rt; least.vertices().eq([0, 2]));
+    assert_eq!(rt; change, wanted);
+    assert_eq!(rt; (engine.number(), engine.vertices()), (3, 3));
+    assert_eq!(rt; weight(&engine, 0, 2), Some(9));
+    for (list, wanted) in [
+        ([0, 2].as_slice(), Some(1)),
+        (&[0, 1], None),
+        (&[1], Some(0)),
+    ] {
+        assert_eq!(rt; birth(&engine, list), wanted, "{list:?}");
+    }
+    assert_eq!(rt; least(&engine, 2, 0, [2, 0]), None);
+    assert_eq!(rt; least(&engine, 0, 2, [0, 2]), Some((9, 1, true, true)));
     Ok(())
 }
 
 #[test]
 fn a_cleaning_step_forms_the_edge_again(rt: HostRuntime) -> Result<(), Fail> {
     let engine = two_stars(&rt, rt.alloc(), true)?;
-    assert_eq!(rt;
-        engine.counts(),
-        Counts {
-            updates: 2,
-            steps: 3,
-            paths: 4,
-            historical: 3,
-            formed: 6,
-            removed: 4
-        }
-    );
-    assert_eq!(rt; engine.birth(&[0, 2]), Some(3));
+    let wanted = Counts {
+        updates: 2,
+        steps: 3,
+        paths: 4,
+        historical: 3,
+        formed: 6,
+        removed: 4,
+    };
+    assert_eq!(rt; counts(&engine), Some(wanted));
+    assert_eq!(rt; birth(&engine, &[0, 2]), Some(3));
     Ok(())
 }
 
 #[test]
 fn a_version_is_filled(rt: HostRuntime) -> Result<(), Fail> {
     let engine = two_stars(&rt, rt.alloc(), false)?;
-    let mut version = Version::new(rt.alloc(), 3)?;
-    assert_eq!(rt; engine.graph().weight(0, 2), Some(9));
-    engine.fill(&mut version);
-    assert_eq!(rt;
-        (version.number(), version.weight(0, 2), version.weight(2, 0)),
-        (2, Some(9), None)
+    assert_eq!(rt; weight(&engine, 0, 2), Some(9));
+    let version = version_of(rt.alloc(), &engine)?;
+    assert_eq!(rt; version.number(), 2);
+    assert_eq!(rt; weight_in(&version, 0, 2), Some(9));
+    assert_eq!(rt; weight_in(&version, 2, 0), None);
+    assert!(rt; are_rows(&version, 0, &[0, 4, 7], &[0, 1, 2], &[0, 1, 1]));
+    let none = NO_DISTANCE;
+    assert!(rt;
+        are_rows(
+            &version,
+            2,
+            &[none, none, 0],
+            &[NO_HOPS, NO_HOPS, 0],
+            &[NO_NEXT, NO_NEXT, 2]
+        )
     );
-    assert_eq!(rt; version.dist_row(0), [0, 4, 7].as_slice());
-    assert_eq!(rt; version.hops_row(0), [0, 1, 2].as_slice());
-    assert_eq!(rt; version.next_row(0), [0, 1, 1].as_slice());
-    assert_eq!(rt;
-        version.dist_row(2),
-        [NO_DISTANCE, NO_DISTANCE, 0].as_slice()
-    );
-    assert_eq!(rt; version.hops_row(2), [NO_HOPS, NO_HOPS, 0].as_slice());
-    assert_eq!(rt; version.next_row(2), [NO_NEXT, NO_NEXT, 2].as_slice());
-    assert!(rt; version.walk(0, 2).eq([0, 1, 2]));
+    assert!(rt; is_walk(&version, 0, 2, [0, 1, 2]));
     Ok(())
 }
 

@@ -1,4 +1,4 @@
-use Rattle.std.proofs.Common.{◌≡◌, List, sym, subst}
+use Rattle.std.proofs.Common.{List, sym, subst}
 use Rattle.pair_heaps.proofs.Places.{on_ok}
 use Rattle.fixup.specs.declared.listing.Join.{Join}
 use Rattle.fixup.specs.Owing.{AreOwed}

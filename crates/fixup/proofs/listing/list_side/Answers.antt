@@ -1,10 +1,13 @@
-use Rattle.std.proofs.Common.{◌≡◌, ℕ, ◌+◌, List, [], ◌∷◌, ◌++◌, sym, ◌∙◌, ap, subst, take, Vec, Global}
+use Rattle.std.proofs.Common.{◌+◌, List, [], ◌∷◌, ◌++◌, sym, ◌∙◌, ap, subst, take, Vec, Global}
 use Rattle.std.proofs.lemmas.Bool.{true≢false}
 use Rattle.fixup.specs.declared.listing.Join.{Join}
 use Rattle.fixup.specs.Owing.{AreAdded, ListsFrom}
 use Rattle.fixup.proofs.Adding.{side_passes, side_lists}
 use Rattle.fixup.proofs.listing.list_side.Goals.{then-lists+in-Ok, else-lists}
 use Rattle.fixup.proofs.listing.list_side.Goals as goal
+
+pub lists-requires-clause-apart : goal.lists-requires-clause-apart
+lists-requires-clause-apart c = c.requires.apart c.partner-item.result (c.partners.partner-index, c.partners-test.true, sym c.partner-item.is)
 
 pub partners-preserved : goal.partners-preserved
 partners-preserved c = elim c.if-lists.branch [

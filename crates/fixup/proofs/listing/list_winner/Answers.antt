@@ -1,4 +1,4 @@
-use Rattle.std.proofs.Common.{◌≡◌, ℕ, Some, List, sym, ◌∙◌, ap, subst}
+use Rattle.std.proofs.Common.{◌≡◌, Some, sym, ◌∙◌, ap, subst}
 use Rattle.pair_heaps.proofs.Places.{on_ok}
 use Rattle.path_arena.specs.Arena.{Arena, IsLive, left_of, right_of}
 use Rattle.extension_lists.specs.Known.{Known, sides_at}
@@ -20,6 +20,22 @@ list_side-requires-2-clause-all c = λ q m.
     let r : right_of c.args.book.now.arena c.args.winner ≡ Some c.right_part-right.result = ap (λ (a : Arena). right_of a c.args.winner) (sym c.arena-arena.ensures.lent) ∙ c.right_part-right.ensures.value in
     let are : c.right_star-behind.result.now ≡ (sides_at c.args.book.now.lists c.right_part-right.result).right_star = c.right_star-behind.ensures.lent ∙ ap (λ (k : Known). (sides_at k c.right_part-right.result).right_star) c.lists-lists.ensures.lent in
     subst (λ (a : Arena). IsLive a q) (sym c.arena-arena.ensures.lent) (c.requires.promoted.lawful.marked_live q ((behinds_are c.args.book.now c.requires.promoted.lawful c.args.winner c.left_part-left.result c.right_part-right.result l r c.right_star-behind.result.now are q).0 m).1)
+
+pub list_side-requires-clause-apart : goal.list_side-requires-clause-apart
+list_side-requires-clause-apart c = λ q m same.
+    let l : left_of c.args.book.now.arena c.args.winner ≡ Some c.left_part-left.result = ap (λ (a : Arena). left_of a c.args.winner) (sym c.arena-arena.ensures.lent) ∙ c.left_part-left.ensures.value in
+    let r : right_of c.args.book.now.arena c.args.winner ≡ Some c.right_part-right.result = ap (λ (a : Arena). right_of a c.args.winner) (sym c.arena-arena.ensures.lent) ∙ c.right_part-right.ensures.value in
+    let are : c.left_star-in_front.result.now ≡ (sides_at c.args.book.now.lists c.left_part-left.result).left_star = c.left_star-in_front.ensures.lent ∙ ap (λ (k : Known). (sides_at k c.left_part-left.result).left_star) c.lists-lists.ensures.lent in
+    let meets : right_of c.args.book.now.arena q ≡ left_of c.args.book.now.arena c.args.winner = ((fronts_are c.args.book.now c.requires.promoted.lawful c.args.winner c.left_part-left.result c.right_part-right.result l r c.left_star-in_front.result.now are q).0 m).0 in
+    c.requires.promoted.apart c.args.winner c.requires.one (ap (right_of c.args.book.now.arena) (sym same) ∙ meets)
+
+pub list_side-requires-2-clause-apart : goal.list_side-requires-2-clause-apart
+list_side-requires-2-clause-apart c = λ q m same.
+    let l : left_of c.args.book.now.arena c.args.winner ≡ Some c.left_part-left.result = ap (λ (a : Arena). left_of a c.args.winner) (sym c.arena-arena.ensures.lent) ∙ c.left_part-left.ensures.value in
+    let r : right_of c.args.book.now.arena c.args.winner ≡ Some c.right_part-right.result = ap (λ (a : Arena). right_of a c.args.winner) (sym c.arena-arena.ensures.lent) ∙ c.right_part-right.ensures.value in
+    let are : c.right_star-behind.result.now ≡ (sides_at c.args.book.now.lists c.right_part-right.result).right_star = c.right_star-behind.ensures.lent ∙ ap (λ (k : Known). (sides_at k c.right_part-right.result).right_star) c.lists-lists.ensures.lent in
+    let meets : left_of c.args.book.now.arena q ≡ right_of c.args.book.now.arena c.args.winner = ((behinds_are c.args.book.now c.requires.promoted.lawful c.args.winner c.left_part-left.result c.right_part-right.result l r c.right_star-behind.result.now are q).0 m).0 in
+    c.requires.promoted.apart c.args.winner c.requires.one (sym meets ∙ ap (left_of c.args.book.now.arena) same)
 
 pub returns : goal.returns
 returns c =

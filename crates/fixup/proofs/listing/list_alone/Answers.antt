@@ -1,7 +1,7 @@
 use Rattle.std.proofs.Common.{[], arith}
 use Rattle.fixup.proofs.Wholes.{each_once}
 use Rattle.fixup.proofs.Adding.{all_start, all_more, all_listed}
-use Rattle.fixup.proofs.listing.list_joins.Goals as goal
+use Rattle.fixup.proofs.listing.list_alone.Goals as goal
 
 pub winners-init : goal.winners-init
 winners-init g c = all_start c.args.book.now c.args.winners.now c.clear.new.self.items c.clear.ensures.items

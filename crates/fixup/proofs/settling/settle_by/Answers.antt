@@ -1,5 +1,5 @@
 use Rattle.fixup.proofs.Ending.{paths_rise, historical_rise, all_settled}
-use Rattle.fixup.proofs.settling.settle.Goals as goal
+use Rattle.fixup.proofs.settling.settle_by.Goals as goal
 
 pub overflow_sub-result : goal.overflow_sub-result
 overflow_sub-result g c = paths_rise c.args.graph.now c.args.birth c.args.book.now c.settle_paths.new.book c.in_ok-settle_paths.ensures.over.classes c.count_paths-paths.ensures.lawful c.in_ok-settle_paths.ensures.over.at c.requires.same c.count_paths-paths.result c.count_paths.result c.count_paths-paths.ensures.count c.count_paths.ensures.count

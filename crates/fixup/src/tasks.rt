@@ -1,0 +1,141 @@
+//! The joins of a class, listed by one worker or by several.
+
+ghost use Rattle.std.specs.Prelude.{◌≡◌, ◌≤◌, length, OnOk};
+ghost use Rattle.fixup.specs.Owing.{ArePromoted, AreOwed};
+
+use crate::listing::{Join, list_alone, list_winner};
+use apsp_io::Gate;
+use apsp_model::{MOST_VERTICES, Memory};
+use path_arena::PathId;
+use path_book::Book;
+use std::alloc::Global;
+use std::marker::{Model, Sync};
+use std::thread::Threads;
+use task_pool::{Job, run_tasks};
+
+/// From so many partners of its winners on, a class is listed by several workers. Starting one costs
+/// about 20 µs of processor time, as much as looking at some thousands of partners.
+pub(crate) const MANY_PARTNERS: usize = 16_384;
+
+/// Who lists the joins of a class: so many workers, which pass the gate, where the winners have at
+/// least `many` partners.
+#[derive(Drop)]
+pub(crate) struct Crew<'a, R, G> {
+    pub(crate) rt: &'a R,
+    pub(crate) alloc: Global,
+    pub(crate) workers: u32,
+    pub(crate) gate: &'a G,
+    pub(crate) many: usize,
+    ghost some: { 1 ≤ workers },
+    ghost most: { workers ≤ 64 },
+}
+
+/// The promoted winners of a class. The task of a winner lists the joins that it owes.
+#[derive(Drop)]
+struct Owing<'a> {
+    alloc: Global,
+    book: &'a Book,
+    winners: &'a [PathId],
+}
+
+impl<'a> Model for Owing<'a> {
+    ghost use Rattle.fixup.specs.Owing.{Class, class_code, ArePromoted};
+
+    ghost Value = { Class };
+
+    ghost coded = { class_code };
+
+    ghost view = { λ o. record { book = o.book.now; winners = o.winners.now } };
+
+    ghost invariant = { λ o. ArePromoted o.book.now o.winners.now };
+}
+
+impl<'a> Job for Owing<'a> {
+    ghost use Rattle.std.specs.Prelude.{length};
+    ghost use Rattle.fixup.specs.Owing.{ListsAt};
+
+    type Out = Vec<Join>;
+
+    ghost count = { λ class. length class.winners };
+
+    ghost gives = { λ class k list. ListsAt class k list.items };
+
+    fn run(&self, task: u32) -> Result<Vec<Join>, Memory> {
+        let mut joins = Vec::new(self.alloc);
+        list_winner(
+            self.book,
+            self.winners,
+            self.winners[task as usize],
+            &mut joins,
+        )?;
+        Ok(joins)
+    }
+}
+
+/// Lists the joins that the promoted winners of a class owe, each once: of two historical paths, of
+/// which one is a winner or both are. Each is listed by one winner, for which the gate is passed.
+pub(crate) fn list_joins<R: Threads + Sync, G: Gate>(
+    crew: &Crew<'_, R, G>,
+    book: &Book,
+    winners: &[PathId],
+    joins: &mut Vec<Join>,
+) -> Result<(), Memory>
+    requires promoted { ArePromoted book.now winners.now }
+    ensures owed { OnOk result (AreOwed book.now winners.now joins.new.items) }
+{
+    if crew.workers > 1 && has_partners(book, winners, crew.many) {
+        if let Ok(tasks) = u32::try_from(winners.len()) {
+            return list_by_tasks(crew, book, winners, tasks, joins);
+        }
+    }
+    list_alone(book, winners, joins, crew.gate)
+}
+
+/// Lists the joins of each winner by a task of its own, and puts the lists one behind another.
+fn list_by_tasks<R: Threads + Sync, G: Gate>(
+    crew: &Crew<'_, R, G>,
+    book: &Book,
+    winners: &[PathId],
+    tasks: u32,
+    joins: &mut Vec<Join>,
+) -> Result<(), Memory>
+    requires promoted { ArePromoted book.now winners.now }
+    requires all { tasks ≡ length winners.now }
+    ensures owed { OnOk result (AreOwed book.now winners.now joins.new.items) }
+{
+    let class = Owing {
+        alloc: crew.alloc,
+        book,
+        winners,
+    };
+    let lists = run_tasks(crew.rt, crew.alloc, crew.workers, tasks, &class, crew.gate)?;
+    joins.clear();
+    'lists: for list in lists.answers() {
+        let Ok(()) = joins.extend_from_slice(list.as_slice()) else {
+            return Err(Memory);
+        };
+    }
+    Ok(())
+}
+
+/// Whether the winners have at least so many partners in all. Each has at most one for each vertex
+/// on either side, so few winners need no look.
+fn has_partners(book: &Book, winners: &[PathId], many: usize) -> bool
+    requires promoted { ArePromoted book.now winners.now }
+{
+    if winners.len() < many / (2 * MOST_VERTICES as usize) {
+        return false;
+    }
+    let (arena, lists) = (book.arena(), book.lists());
+    let mut rest = many;
+    'winners: for &winner in winners {
+        let in_front = lists.left_star(arena.left_part(winner)).len();
+        let behind = lists.right_star(arena.right_part(winner)).len();
+        let partners = in_front.saturating_add(behind);
+        if partners >= rest {
+            return true;
+        }
+        rest -= partners;
+    }
+    false
+}
