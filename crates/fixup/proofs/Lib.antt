@@ -9,6 +9,7 @@ pub mod Starting
 pub mod Heads
 pub mod Classing
 pub mod Ending
+pub mod Resting
 pub mod Lightest
 pub mod Joined
 pub mod Wholes

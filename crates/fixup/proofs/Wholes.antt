@@ -13,7 +13,7 @@ use Rattle.path_arena.proofs.Paths.{live_path, path_of_at}
 use Rattle.path_arena.proofs.Puts.{weight_most, length_most}
 use Rattle.path_book.specs.Book.{Book, IsBook, IsMarked, kept_paths}
 use Rattle.weight_classes.specs.Classes.{Classes, Rank, IsLower, Fits, IsHeld, IsPopped, InOrder, first_of, last_of, rank_of}
-use Rattle.fixup.specs.Growth.{IsAt, IsEdging, IsQueueing}
+use Rattle.fixup.specs.Growth.{AreHeadsQueued, IsAt, IsEdging}
 use Rattle.fixup.specs.Stages.{Start, Stage, IsStarted, IsTakenAt, IsDoneAt, IsClassReady}
 use Rattle.fixup.proofs.Classing.{class_path, class_taken, class_weight, class_hops, class_one, class_one_in}
 use Rattle.fixup.proofs.Growth.{id_weight}
@@ -89,10 +89,10 @@ module _ (g : Graph) (birth : ℕ) (b0 b : Book) (c : Classes) (s : IsAt g birth
 
 -- ---- the start
 
-pub starts : (g : Graph) (v birth : ℕ) (b0 b : Book) (c : Classes) → IsGraph g → IsBook b0 → b0.arena.vertices ≡ g.vertices → IsReady g v (kept_paths b0) → IsEdging g v birth b0 g.vertices g.vertices b → IsQueueing b g.vertices 0 c → IsAt g birth b0 b c
-starts g v birth b0 b c graph lawful same ready edging queueing =
+pub starts : (g : Graph) (v birth : ℕ) (b0 b : Book) (c : Classes) → IsGraph g → IsBook b0 → b0.arena.vertices ≡ g.vertices → IsReady g v (kept_paths b0) → IsEdging g v birth b0 g.vertices g.vertices b → AreHeadsQueued b c → IsAt g birth b0 b c
+starts g v birth b0 b c graph lawful same ready edging queued =
     at_start g v birth b0 b c edging.grown edging.marks lists (cleaned g v birth b0 lawful same ready) (edges_done g v birth b0 lawful same ready graph b edging)
-    (subst (λ n. IsQueueing b n 0 c) (sym edging.grown.vertices) queueing)
+    queued
   where
     lists : (id : ℕ) → IsMarked b0 id → list_of b.arena id ≡ list_of b0.arena id
     lists id m =

@@ -2,8 +2,8 @@
 use Rattle.std.specs.Prelude.{◌≡◌, ◌≢◌, ℕ, ◌<◌, ◌⊎◌, ◌↔◌, List, [], ◌∷◌, ◌++◌, length, Some, None, option_to_list, Contains}
 use Rattle.apsp_model.specs.Graph.{Graph, HasEdge}
 use Rattle.apsp_model.specs.Walk.{weight_of, first, last}
-use Rattle.path_arena.specs.Arena.{Path, path_at, list_of, IsLive}
-use Rattle.path_book.specs.Book.{Book, IsMarked, IsBook, IsLeastKept, KeepsNone}
+use Rattle.path_arena.specs.Arena.{Arena, Path, path_at, list_of, IsLive}
+use Rattle.path_book.specs.Book.{Book, IsMarked, IsBook, ArePendingLeasts}
 use Rattle.weight_classes.specs.Classes.{Classes, Rank, Fits, IsHeld, InOrder}
 use Rattle.fixup_math.specs.Settling.{IsForming as IsFormingOf}
 use Rattle.fixup_math.specs.Joins.{IsJoin, Then}
@@ -34,27 +34,17 @@ pub record IsEdging (g : Graph) (v birth : ℕ) (b0 : Book) (i j : ℕ) (b : Boo
   pub marks : b.marked ≡ b0.marked
   pub kept : (p : List ℕ) → Kept b p ↔ (Kept b0 p ⊎ EdgesBy g v i j p)
 
--- the pair of u and v stands before that of x and y, row by row
-abbrev pub StandsBefore : ℕ → ℕ → ℕ → ℕ → Type 0
-StandsBefore x y u v = (u < x) ⊎ ((u ≡ x) × (v < y))
-
--- the least kept path of a pair before that of x and y, where it is not historical
-pub record IsHead (b : Book) (x y : ℕ) (p : List ℕ) : Type 0 where
-  pub from : ℕ
-  pub to : ℕ
-  pub id : ℕ
-  pub earlier : StandsBefore x y from to
-  pub inside : to < b.arena.vertices
-  pub least : IsLeastKept b from to id
-  pub pending : IsMarked b id → ⊥
-  pub list : list_of b.arena id ≡ p
-
--- the heads of the pairs before that of x and y are held
-pub record IsQueueing (b : Book) (x y : ℕ) (c : Classes) : Type 0 where
-  pub fits : Fits c b.arena
+-- these ids are held by now, and nothing else is
+pub record IsQueueing (a : Arena) (ids : List ℕ) (c : Classes) : Type 0 where
+  pub fits : Fits c a
   pub none_won : (u v : ℕ) → WonIn c u v → ⊥
-  pub heads : (u v : ℕ) → StandsBefore x y u v → v < b.arena.vertices → KeepsNone b u v ⊎ ((id : ℕ) × IsLeastKept b u v id × (IsMarked b id ⊎ HeldIn b c (list_of b.arena id)))
-  pub held : (p : List ℕ) → HeldIn b c p → IsHead b x y p
+  pub held : (id : ℕ) → ((r : Rank) × IsHeld c r id) ↔ Contains ids id
+
+-- the least kept paths of the pairs that are not historical are held, and nothing else is
+pub record AreHeadsQueued (b : Book) (c : Classes) : Type 0 where
+  pub heads : List ℕ
+  pub are : ArePendingLeasts b b.arena.vertices heads
+  pub queueing : IsQueueing b.arena heads c
 
 -- ---- the classes
 

@@ -10,10 +10,3 @@ abbrev pub IsEdgeFormed : Graph → Book → ℕ → ℕ → ℕ → Book → Ty
 IsEdgeFormed g b u v birth after =
     ((weight_at g u v ≡ None) × (after ≡ b))
     ⊎ ((w : ℕ) × (id : ℕ) × (weight_at g u v ≡ Some w) × (path_at b.arena id ≡ None) × (after ≡ with_kept b id (edge_path b.arena u v w birth)))
-
--- the least kept path of the pair is held where it is not historical
-abbrev pub IsHeadHeld : Book → ℕ → ℕ → Classes → Classes → Type 0
-IsHeadHeld b x y c later =
-    (KeepsNone b x y × (later ≡ c))
-    ⊎ (((id : ℕ) × IsLeastKept b x y id × IsMarked b id × (later ≡ c))
-    ⊎ ((id : ℕ) × IsLeastKept b x y id × (IsMarked b id → ⊥) × IsPushed c later b.arena id))

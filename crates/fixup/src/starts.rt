@@ -1,17 +1,19 @@
 //! What is done before the first class.
 
-ghost use Rattle.std.specs.Prelude.{◌≡◌, ℕ, ◌<◌, ◌∷◌, [], Some, OnOk, OnErr};
+ghost use Rattle.std.specs.Prelude.{◌≡◌, ℕ, ◌<◌, ◌∷◌, [], Some, OnOk, OnErr, Contains};
 ghost use Rattle.apsp_model.specs.Graph.{weight_at};
 ghost use Rattle.apsp_model.specs.Settled.{IsReady};
-ghost use Rattle.pair_heaps.specs.Heaps.{HasEnds};
+ghost use Rattle.apsp_model.specs.Walk.{IsOnceEach};
+ghost use Rattle.path_arena.specs.Arena.{IsLive};
 ghost use Rattle.path_book.specs.Book.{IsBook, IsNewList, kept_paths};
-ghost use Rattle.weight_classes.specs.Classes.{Fits, IsHeld, Rank};
-ghost use Rattle.fixup.specs.Starts.{IsEdgeFormed, IsHeadHeld};
-ghost use Rattle.fixup.specs.Growth.{IsEdging, IsQueueing};
+ghost use Rattle.fixup.specs.Starts.{IsEdgeFormed};
+ghost use Rattle.fixup.specs.Growth.{AreHeadsQueued, IsEdging, IsQueueing};
 
 use apsp_model::Memory;
 use graph_store::Graph;
+use path_arena::{Arena, PathId};
 use path_book::Book;
+use std::alloc::Global;
 use weight_classes::Classes;
 
 /// Keeps the edges at v.
@@ -50,43 +52,30 @@ fn form_edge(book: &mut Book, graph: &Graph, from: u32, to: u32, birth: u64) -> 
     Ok(())
 }
 
-/// Holds of each pair the least kept path, where it is not historical.
-pub(crate) fn queue_heads(book: &mut Book, classes: &mut Classes, n: u32) -> Result<(), Memory>
-    requires vertices { book.old.arena.vertices ≡ n }
-    requires start { IsQueueing book.old 0 0 classes.old }
+/// Holds the least kept paths of the pairs that are not historical.
+pub(crate) fn queue_heads(
+    alloc: Global,
+    book: &mut Book,
+    classes: &mut Classes,
+) -> Result<(), Memory>
+    requires start { IsQueueing book.old.arena [] classes.old }
     ensures same { book.new ≡ book.old }
-    ensures queued { OnOk result (IsQueueing book.old n 0 classes.new) }
+    ensures queued { OnOk result (AreHeadsQueued book.old classes.new) }
 {
-    'rows: for x in 0..n {
-        queue_row(book, classes, n, x)?;
-    }
-    Ok(())
+    let mut heads = Vec::new(alloc);
+    book.pending_leasts(&mut heads)?;
+    hold_all(book.arena(), classes, &heads)
 }
 
-fn queue_row(book: &mut Book, classes: &mut Classes, n: u32, x: u32) -> Result<(), Memory>
-    requires vertices { book.old.arena.vertices ≡ n }
-    requires inside { x < n }
-    requires start { IsQueueing book.old x 0 classes.old }
-    ensures same { book.new ≡ book.old }
-    ensures queued { OnOk result (IsQueueing book.old x n classes.new) }
+/// Holds these paths.
+fn hold_all(arena: &Arena, classes: &mut Classes, heads: &[PathId]) -> Result<(), Memory>
+    requires start { IsQueueing arena.now [] classes.old }
+    requires live { (id : ℕ) → Contains heads.now id → IsLive arena.now id }
+    requires once { IsOnceEach heads.now }
+    ensures held { OnOk result (IsQueueing arena.now heads.now classes.new) }
 {
-    'pairs: for y in 0..n {
-        queue_head(book, classes, x, y)?;
-    }
-    Ok(())
-}
-
-fn queue_head(book: &mut Book, classes: &mut Classes, x: u32, y: u32) -> Result<(), Memory>
-    requires from { x < book.old.arena.vertices }
-    requires to { y < book.old.arena.vertices }
-    requires fits { Fits classes.old book.old.arena }
-    requires fresh { (r : Rank) (id : ℕ) → IsHeld classes.old r id → HasEnds book.old.arena id x y → ⊥ }
-    ensures same { book.new ≡ book.old }
-    ensures held { OnOk result (IsHeadHeld book.old x y classes.old classes.new) }
-    ensures fits { Fits classes.new book.old.arena }
-{
-    if let Some(id) = book.pending_least(x, y) {
-        classes.push(book.arena(), id)?;
+    'heads: for &id in heads {
+        classes.push(arena, id)?;
     }
     Ok(())
 }

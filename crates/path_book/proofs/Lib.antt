@@ -14,4 +14,6 @@ pub mod Forms
 pub mod Lookups
 pub mod Opening
 pub mod Changes
-pub mod Calm
+pub mod Noted
+pub mod Clean
+pub mod Heads

@@ -5,6 +5,7 @@ use Rattle.std.specs.Coded.{Coded, code_by, coded×, coded_ℕ}
 use Rattle.std.specs.FinMap as paths
 use Rattle.std.specs.FinSet as set
 use Rattle.std.specs.declared.cmp.Ordering.TheVariants.{Less}
+use Rattle.apsp_model.specs.Walk.{IsOnceEach}
 use Rattle.apsp_model.specs.Kept.{IsWithEdge}
 use Rattle.apsp_model.specs.Counts.{CountIs}
 use Rattle.apsp_model.specs.Paths.{KeptPath, IsKeptIn, IsHistoricalIn}
@@ -106,6 +107,16 @@ IsPendingLeast b x y id = IsLeastKept b x y id × (IsMarked b id → ⊥)
 -- the pair has no kept path, or its least one is historical
 abbrev pub HasNoPendingLeast : Book → ℕ → ℕ → Type 0
 HasNoPendingLeast b x y = KeepsNone b x y ⊎ ((id : ℕ) × IsLeastKept b x y id × IsMarked b id)
+
+-- no pair of vertices has a least kept path that is not historical
+abbrev pub HasNonePending : Book → Type 0
+HasNonePending b = (x y : ℕ) → x < b.arena.vertices → y < b.arena.vertices → HasNoPendingLeast b x y
+
+-- these are the least kept paths of the pairs of vertices below n that are not historical, each once
+pub record ArePendingLeasts (b : Book) (n : ℕ) (ids : List ℕ) : Type 0 where
+  pub pairs : (x y : ℕ) → x < n → y < n → HasNoPendingLeast b x y ⊎ ((id : ℕ) × IsPendingLeast b x y id × Contains ids id)
+  pub only : (id : ℕ) → Contains ids id → (x : ℕ) × (y : ℕ) × (x < n) × (y < n) × IsPendingLeast b x y id
+  pub once : IsOnceEach ids
 
 -- how many kept paths have an edge, and how many of those are historical
 abbrev pub PathsCount : Book → ℕ → Type 0

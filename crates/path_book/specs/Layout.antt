@@ -1,14 +1,14 @@
 -- How a book lays out its parts. No public clause cites this module.
-use Rattle.std.specs.Prelude.{◌≡◌, ℕ, ◌+◌, ◌<◌, ◌≤◌, ◌^◌, Bool, true, false, IsTrue, List, [], ◌∷◌, slice_index_or, Some, Contains}
+use Rattle.std.specs.Prelude.{◌≡◌, ℕ, ◌+◌, ◌<◌, ◌≤◌, ◌^◌, ◌⊎◌, Bool, true, false, IsTrue, List, [], ◌∷◌, slice_index_or, Some, Contains}
 use Rattle.std.specs.Ordering.{nat_cmp}
 use Rattle.std.specs.FinSet as set
-use Rattle.apsp_model.specs.Walk.{last}
+use Rattle.apsp_model.specs.Walk.{IsOnceEach, last}
 use Rattle.apsp_model.specs.Counts.{CountIs}
 use Rattle.path_arena.specs.Arena.{Arena, HasAnEdge, vertex_of, list_of, left_of}
 use Rattle.pair_heaps.specs.Heaps.{Heaps, held_at, Fits, HasEnds}
 use Rattle.extension_lists.specs.Known.{Known, no_sides, IsKnown, sides_at}
-use Rattle.path_book.specs.Book.{Book, IsBook, HasNoPendingLeast}
-use Rattle.path_book.specs.Flags.{Flags, flag_at}
+use Rattle.path_book.specs.Book.{Book, IsBook, IsPendingLeast, HasNoPendingLeast}
+use Rattle.path_book.specs.Dirty.{Dirty, is_dirty}
 use Rattle.path_book.specs.declared.book.Book.TheInside.{Inside}
 
 -- the places of the marks, the first of which is k
@@ -44,17 +44,23 @@ pub record IsStored (b : Book) (held : Heaps) (historical pending : ℕ) : Type 
   pub pending_count : CountIs (IsCounted b false) pending
   pub most : historical + pending ≤ 2 ^ 48
 
--- of a pair whose flag is down the least kept path, if there is one, is historical
-pub record IsCalm (b : Book) (s : Flags) : Type 0 where
-  pub vertices : b.arena.vertices ≡ s.vertices
-  pub calm : (x y : ℕ) → x < s.vertices → y < s.vertices → flag_at s x y ≡ false → HasNoPendingLeast b x y
+-- of a pair that is not dirty the least kept path, if there is one, is historical
+pub record IsClean (b : Book) (d : Dirty) : Type 0 where
+  pub vertices : b.arena.vertices ≡ d.vertices
+  pub clean : (x y : ℕ) → x < d.vertices → y < d.vertices → is_dirty d x y ≡ false → HasNoPendingLeast b x y
 
-pub record IsLaidOut (b : Book) (held : Heaps) (s : Flags) (historical pending : ℕ) : Type 0 where
+pub record IsLaidOut (b : Book) (held : Heaps) (d : Dirty) (historical pending : ℕ) : Type 0 where
   pub stored : IsStored b held historical pending
-  pub stirred : IsCalm b s
+  pub dirty : IsClean b d
 
 abbrev pub IsSound : Inside → Type 0
-IsSound b = IsLaidOut (view_of b) b.heaps b.stirred b.historical b.pending
+IsSound b = IsLaidOut (view_of b) b.heaps b.dirty b.historical b.pending
+
+-- these are the least kept paths of these pairs that are not historical, each once
+pub record AreHeadsOf (b : Book) (pairs : List (ℕ × ℕ)) (ids : List ℕ) : Type 0 where
+  pub looked : (p : ℕ × ℕ) → Contains pairs p → HasNoPendingLeast b p.0 p.1 ⊎ ((id : ℕ) × IsPendingLeast b p.0 p.1 id × Contains ids id)
+  pub only : (id : ℕ) → Contains ids id → (p : ℕ × ℕ) × Contains pairs p × IsPendingLeast b p.0 p.1 id
+  pub once : IsOnceEach ids
 
 -- the path of an id is that of another with v behind it
 abbrev pub IsExtensionTo : Arena → ℕ → ℕ → ℕ → Type 0

@@ -1,4 +1,4 @@
 pub mod Book
-pub mod Flags
+pub mod Dirty
 pub mod Layout
 pub mod Admitted

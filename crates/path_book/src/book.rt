@@ -2,14 +2,15 @@
 
 ghost use Rattle.std.specs.Prelude.{◌≡◌, ◌≢◌, ℕ, ◌<◌, ◌≤◌, ◌^◌, ◌↔◌, ◌∷◌, [], All, Some, IfNone, IfOk, IfSome, OnOk, OnErr, MatchOption, Contains, length};
 ghost use Rattle.std.specs.FinSet as set;
+ghost use Rattle.apsp_model.specs.Walk.{IsOnceEach};
 ghost use Rattle.apsp_model.specs.Paths.{IsKeptIn, HasBirthIn};
 ghost use Rattle.extension_lists.specs.Known.{IsStarred};
 ghost use Rattle.path_arena.specs.Arena.{path_at, path_of, IsLive, HasAnEdge, edge_path, joined_path, IsPartOfNone, CanJoin};
-ghost use Rattle.path_book.specs.Book.{IsBook, IsMarked, IsOpening, kept_paths, IsNewList, with_kept, with_mark, left_id, right_id, IsForgotten, IsLeastKept, KeepsNone, IsPendingLeast, HasNoPendingLeast, PathsCount, HistoricalCount};
+ghost use Rattle.path_book.specs.Book.{IsBook, IsMarked, IsOpening, kept_paths, IsNewList, with_kept, with_mark, left_id, right_id, IsForgotten, IsLeastKept, KeepsNone, IsPendingLeast, HasNoPendingLeast, HasNonePending, ArePendingLeasts, PathsCount, HistoricalCount};
 
 use crate::admit::{admit, enter_vertices};
+use crate::dirty::Dirty;
 use crate::marks::{clear, is_marked, make_room};
-use crate::stirred::Stirred;
 use apsp_model::{MOST_VERTICES, Memory};
 use extension_lists::Lists;
 use pair_heaps::Heaps;
@@ -28,8 +29,8 @@ pub struct Book {
     lists: Lists,
     // Whether the path of a key is historical; a key past the end is not.
     marks: Vec<bool>,
-    // The least path of a pair that is not stirred is historical, if there is one.
-    stirred: Stirred,
+    // The least path of a pair that is not dirty is historical, if there is one.
+    dirty: Dirty,
     // How many paths with an edge are historical, and how many are not yet.
     historical: u64,
     pending: u64,
@@ -50,7 +51,8 @@ impl Model for Book {
 }
 
 impl Book {
-    ghost use Rattle.path_book.specs.Layout.{IsExtensionTo};
+    ghost use Rattle.path_book.specs.Dirty.{AreInside};
+    ghost use Rattle.path_book.specs.Layout.{AreHeadsOf, IsExtensionTo};
 
     /// Keeps the single vertices.
     pub fn new(alloc: Global, n: u32) -> Result<Book, Memory>
@@ -61,7 +63,7 @@ impl Book {
     {
         let arena = Arena::new(alloc, n)?;
         let heaps = Heaps::new(alloc, n)?;
-        let stirred = Stirred::new(alloc, n)?;
+        let dirty = Dirty::new(alloc, n)?;
         let mut lists = Lists::new(alloc);
         let mut marks = Vec::new(alloc);
         enter_vertices(&arena, &mut lists, &mut marks, n)?;
@@ -70,7 +72,7 @@ impl Book {
             heaps,
             lists,
             marks,
-            stirred,
+            dirty,
             historical: 0,
             pending: 0,
         })
@@ -93,7 +95,7 @@ impl Book {
         self.heaps.reserve(u, v)?;
         let id = self.arena.edge(u, v, w, birth)?;
         admit(&mut self.arena, &mut self.heaps, &mut self.lists, id)?;
-        self.stirred.stir(u, v);
+        self.dirty.note(u, v);
         self.pending += 1;
         Ok(id)
     }
@@ -116,7 +118,7 @@ impl Book {
         self.heaps.reserve(from, to)?;
         let id = self.arena.join(l, r, birth)?;
         admit(&mut self.arena, &mut self.heaps, &mut self.lists, id)?;
-        self.stirred.stir(from, to);
+        self.dirty.note_all();
         self.pending += 1;
         Ok(id)
     }
@@ -146,7 +148,7 @@ impl Book {
         ensures forgotten { IsForgotten self.old self.new id }
         ensures lawful { IsBook self.new }
     {
-        self.stirred.stir(self.arena.first(id), self.arena.last(id));
+        self.dirty.note(self.arena.first(id), self.arena.last(id));
         let (left, right) = (self.arena.left_part(id), self.arena.right_part(id));
         self.heaps.remove(&self.arena, id);
         self.lists.drop_id(id, left, right);
@@ -172,23 +174,41 @@ impl Book {
         }
     }
 
-    /// The least kept path of the pair, where it is not historical. It looks at the paths only where
-    /// one of the pair was formed or forgotten since it last gave none.
-    pub fn pending_least(&mut self, x: u32, y: u32) -> Option<PathId>
-        requires from { x < self.old.arena.vertices }
-        requires to { y < self.old.arena.vertices }
+    /// Lists the least kept paths of the pairs that are not historical, each once. It looks at the
+    /// pairs of which an edge was formed or a path was forgotten since the last `note_clean`, and at
+    /// all pairs where a join was formed since. Memory changes nothing of the book.
+    pub fn pending_leasts(&mut self, heads: &mut Vec<PathId>) -> Result<(), Memory>
         ensures same { self.new ≡ self.old }
-        ensures pending { MatchOption result (HasNoPendingLeast self.old x y) (IsPendingLeast self.old x y) }
+        ensures heads { OnOk result (ArePendingLeasts self.old self.old.arena.vertices heads.new.items) }
         ensures lawful { IsBook self.new }
     {
-        if !self.stirred.is_stirred(x, y) {
-            return None;
+        heads.clear();
+        self.dirty.list()?;
+        self.push_heads(self.dirty.pairs(), heads)
+    }
+
+    /// Notes that of each pair the least kept path, if there is one, is historical.
+    pub fn note_clean(&mut self)
+        requires clean { HasNonePending self.old }
+        ensures same { self.new ≡ self.old }
+        ensures lawful { IsBook self.new }
+    {
+        self.dirty.clear();
+    }
+
+    /// Lists the least kept paths of these pairs that are not historical.
+    fn push_heads(&self, pairs: &[(u32, u32)], heads: &mut Vec<PathId>) -> Result<(), Memory>
+        requires inside { AreInside self.now.arena.vertices pairs.now }
+        requires once { IsOnceEach pairs.now }
+        requires none { heads.old.items ≡ [] }
+        ensures heads { OnOk result (AreHeadsOf self.now pairs.now heads.new.items) }
+    {
+        'pairs: for &(x, y) in pairs {
+            if let Some(id) = self.least_if_pending(x, y) {
+                heads.push(id).map_err(|_| Memory)?;
+            }
         }
-        let pending = self.least_if_pending(x, y);
-        if pending.is_none() {
-            self.stirred.calm(x, y);
-        }
-        pending
+        Ok(())
     }
 
     fn least_if_pending(&self, x: u32, y: u32) -> Option<PathId>

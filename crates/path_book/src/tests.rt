@@ -37,10 +37,12 @@ fn a_joined_path_is_kept_and_promoted(rt: HostRuntime) -> Result<(), Fail> {
     assert_eq!(rt; (book.count_paths(), book.count_historical()), (3, 2));
     assert_eq!(rt; book.birth_of(&[0, 1, 2]), Some(7));
     assert_eq!(rt; book.birth_of(&[1, 0]), None);
-    assert_eq!(rt; book.pending_least(0, 2), Some(joined));
-    assert_eq!(rt; book.pending_least(0, 1), None);
+    let mut heads = Vec::new(rt.alloc());
+    book.pending_leasts(&mut heads)?;
+    assert!(rt; heads.as_slice() == [joined].as_slice());
     book.promote(joined)?;
-    assert_eq!(rt; book.pending_least(0, 2), None);
+    book.pending_leasts(&mut heads)?;
+    assert!(rt; heads.is_empty());
     assert_eq!(rt; (book.count_paths(), book.count_historical()), (3, 3));
     assert_eq!(rt; book.least(0, 2), Some(joined));
     assert_eq!(rt; book.least(2, 0), None);

@@ -1,10 +1,9 @@
 use Rattle.std.proofs.Common.{true, false, refl, sym, ◌∙◌, subst}
 use Rattle.path_arena.specs.Arena.{HasAnEdge, IsPartOfNone}
 use Rattle.path_book.specs.Book.{Book}
-use Rattle.path_book.specs.Layout.{view_of, marked_in, IsCalm}
-use Rattle.path_book.specs.Flags.{Flags}
+use Rattle.path_book.specs.Layout.{view_of, marked_in}
 use Rattle.path_book.proofs.Forgotten.{LeftOver, left_over_now, empty_lists, stands_only, is_held}
-use Rattle.path_book.proofs.Calm.{ends_in_flags, calm_forgotten}
+use Rattle.path_book.proofs.Clean.{ends_in_pairs, clean_forgotten}
 use Rattle.path_book.proofs.book.Book.forget.Goals as goal
 
 pub remove-requires-clause-held : goal.remove-requires-clause-held
@@ -16,9 +15,9 @@ drop_id-requires-clause-empty c = empty_lists (view_of c.self.inside) c.args.id 
 pub drop_id-requires-clause-nowhere_else : goal.drop_id-requires-clause-nowhere_else
 drop_id-requires-clause-nowhere_else c = stands_only (view_of c.self.inside) c.args.id _ _ c.self.invariant.stored.book c.left_part-left.ensures.value c.right_part-right.ensures.value
 
-pub stir-requires : goal.stir-requires
-stir-requires c =
-    let inside = ends_in_flags (view_of c.self.inside) _ c.self.inside.stirred c.args.id c.first.result c.last.result c.self.invariant.stored.book c.self.invariant.stirred c.self.view_is c.requires.edge c.first.ensures.value c.last.ensures.value in
+pub note-requires : goal.note-requires
+note-requires c =
+    let inside = ends_in_pairs (view_of c.self.inside) _ c.self.inside.dirty c.args.id c.first.result c.last.result c.self.invariant.stored.book c.self.invariant.dirty c.self.view_is c.requires.edge c.first.ensures.value c.last.ensures.value in
     record { from = inside.0; to = inside.1 }
 
 pub overflow_sub-self : goal.overflow_sub-self
@@ -41,14 +40,10 @@ was_marked c =
     (sym c.if-clear.true ∙ c.clear.ensures.was) c.clear.ensures.cleared
 
 pub invariant_of-self : goal.invariant_of-self
-invariant_of-self c =
-    let inside = ends_in_flags (view_of c.self.inside) _ c.self.inside.stirred c.args.id c.first.result c.last.result c.self.invariant.stored.book c.self.invariant.stirred c.self.view_is c.requires.edge c.first.ensures.value c.last.ensures.value in
-    record {
-      stored = (was_marked c).stored;
-      stirred =
-          subst (λ (s : Flags). IsCalm (record { arena = c.remove-2.new.self; marked = marked_in c.clear.new.marks.items; lists = c.drop_id.new.self }) s) (sym c.stir.ensures)
-          (calm_forgotten (view_of c.self.inside) _ c.args.id c.self.inside.stirred c.first.result c.last.result (was_marked c).forgotten c.self.invariant.stirred inside.0 inside.1 (c.first.ensures.value, c.last.ensures.value));
-    }
+invariant_of-self c = record {
+  stored = (was_marked c).stored;
+  dirty = clean_forgotten (view_of c.self.inside) _ c.args.id c.self.inside.dirty c.note.new.self c.first.result c.last.result (was_marked c).forgotten c.self.invariant.dirty c.note.ensures (c.first.ensures.value, c.last.ensures.value);
+}
 
 pub returns-then-clear-clause-lawful : goal.returns-then-clear-clause-lawful
 returns-then-clear-clause-lawful c = (was_marked c).stored.book
@@ -73,14 +68,10 @@ was_pending c =
     (sym c.if-clear.false ∙ c.clear.ensures.was) c.clear.ensures.cleared
 
 pub invariant_of-self-else-clear : goal.invariant_of-self-else-clear
-invariant_of-self-else-clear c =
-    let inside = ends_in_flags (view_of c.self.inside) _ c.self.inside.stirred c.args.id c.first.result c.last.result c.self.invariant.stored.book c.self.invariant.stirred c.self.view_is c.requires.edge c.first.ensures.value c.last.ensures.value in
-    record {
-      stored = (was_pending c).stored;
-      stirred =
-          subst (λ (s : Flags). IsCalm (record { arena = c.remove-2.new.self; marked = marked_in c.clear.new.marks.items; lists = c.drop_id.new.self }) s) (sym c.stir.ensures)
-          (calm_forgotten (view_of c.self.inside) _ c.args.id c.self.inside.stirred c.first.result c.last.result (was_pending c).forgotten c.self.invariant.stirred inside.0 inside.1 (c.first.ensures.value, c.last.ensures.value));
-    }
+invariant_of-self-else-clear c = record {
+  stored = (was_pending c).stored;
+  dirty = clean_forgotten (view_of c.self.inside) _ c.args.id c.self.inside.dirty c.note.new.self c.first.result c.last.result (was_pending c).forgotten c.self.invariant.dirty c.note.ensures (c.first.ensures.value, c.last.ensures.value);
+}
 
 pub returns-else-clear-clause-lawful : goal.returns-else-clear-clause-lawful
 returns-else-clear-clause-lawful c = (was_pending c).stored.book

@@ -1,11 +1,10 @@
 use Rattle.std.proofs.Common.{◌≡◌, ◌≢◌, ◌<◌, ◌≤◌, ◌+◌, ◌^◌, ◌∷◌, [], refl, sym, ◌∙◌, ap, subst, arith}
 use Rattle.path_arena.specs.Arena.{Arena, edge_path, IsArena}
 use Rattle.path_book.specs.Book.{Book, with_kept, IsNewList, IsBook}
-use Rattle.path_book.specs.Layout.{view_of, IsStored, IsCalm}
-use Rattle.path_book.specs.Flags.{Flags}
+use Rattle.path_book.specs.Layout.{view_of, IsStored, IsClean}
 use Rattle.path_book.proofs.Formed.{IsNew}
 use Rattle.path_book.proofs.Forms.{stored_reserved, AsksMet, asks_met, IsFormed, is_formed, is_taken_back, on_err, new_edge}
-use Rattle.path_book.proofs.Calm.{in_flags, calm_formed}
+use Rattle.path_book.proofs.Clean.{in_pairs, clean_formed}
 use Rattle.path_book.proofs.book.Book.form_edge.Goals as goal
 
 -- after there is room in the heap
@@ -15,7 +14,7 @@ reserved c = stored_reserved (view_of c.self.inside) c.self.inside.heaps c.reser
 pub invariant_of-self-in_err-id : goal.invariant_of-self-in_err-id
 invariant_of-self-in_err-id c = record {
   stored = subst (λ (a : Arena). IsStored (record { arena = a; marked = (view_of c.self.inside).marked; lists = c.self.inside.lists }) c.reserve.new.self c.self.inside.historical c.self.inside.pending) (sym c.in_err-id.ensures.memory) (reserved c);
-  stirred = subst (λ (a : Arena). IsCalm (record { arena = a; marked = (view_of c.self.inside).marked; lists = c.self.inside.lists }) c.self.inside.stirred) (sym c.in_err-id.ensures.memory) c.self.invariant.stirred;
+  dirty = subst (λ (a : Arena). IsClean (record { arena = a; marked = (view_of c.self.inside).marked; lists = c.self.inside.lists }) c.self.inside.dirty) (sym c.in_err-id.ensures.memory) c.self.invariant.dirty;
 }
 
 -- the new path in the old book
@@ -43,7 +42,7 @@ invariant_of-self-in_err-admit c = record {
       subst (λ (b : Book). IsStored b c.admit.new.heaps c.self.inside.historical c.self.inside.pending) (sym (as_before c))
       (subst (λ h. IsStored (view_of c.self.inside) h c.self.inside.historical c.self.inside.pending) (sym c.in_err-admit.ensures.heaps_kept)
       (stored_reserved (view_of c.self.inside) c.self.inside.heaps c.reserve.new.self c.args.u c.args.v _ _ c.self.invariant.stored (c.reserve.ensures.fits c.self.inside.arena).0 c.in_ok-reserve.ensures.ok));
-  stirred = subst (λ (b : Book). IsCalm b c.self.inside.stirred) (sym (as_before c)) c.self.invariant.stirred;
+  dirty = subst (λ (b : Book). IsClean b c.self.inside.dirty) (sym (as_before c)) c.self.invariant.dirty;
 }
 
 pub returns-in_err-admit-clause-lawful : goal.returns-in_err-admit-clause-lawful
@@ -73,11 +72,9 @@ formed c =
 pub invariant_of-self-2 : goal.invariant_of-self-2
 invariant_of-self-2 c = record {
   stored = (formed c).stored;
-  stirred =
-      subst (λ (b : Book). IsCalm b c.stir.new.self) (sym (formed c).same)
-      (subst (λ (s : Flags). IsCalm (with_kept (view_of c.self.inside) c.in_ok-id.id (edge_path c.self.inside.arena c.args.u c.args.v c.args.w c.args.birth)) s) (sym c.stir.ensures)
-      (calm_formed (view_of c.self.inside) c.in_ok-id.id _ c.self.inside.stirred c.args.u c.args.v c.self.invariant.stored.book (made c) c.self.invariant.stirred
-      (in_flags (view_of c.self.inside) _ c.self.inside.stirred c.args.u c.self.invariant.stirred c.self.view_is c.requires.from) (in_flags (view_of c.self.inside) _ c.self.inside.stirred c.args.v c.self.invariant.stirred c.self.view_is c.requires.to) refl refl));
+  dirty =
+      subst (λ (b : Book). IsClean b c.note.new.self) (sym (formed c).same)
+      (clean_formed (view_of c.self.inside) c.in_ok-id.id _ c.self.inside.dirty c.note.new.self c.args.u c.args.v c.self.invariant.stored.book (made c) c.self.invariant.dirty c.note.ensures refl refl);
 }
 
 pub returns-clause-formed : goal.returns-clause-formed

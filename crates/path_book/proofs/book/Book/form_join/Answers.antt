@@ -1,11 +1,11 @@
-use Rattle.std.proofs.Common.{◌≡◌, ◌≢◌, ◌≤◌, ◌+◌, ◌^◌, sym, ◌∙◌, ap, subst, arith}
+use Rattle.std.proofs.Common.{◌≡◌, ◌≢◌, ◌≤◌, ◌+◌, ◌^◌, refl, sym, ◌∙◌, ap, subst, arith}
 use Rattle.path_arena.specs.Arena.{Arena, CanJoin, joined_path, IsArena}
 use Rattle.path_book.specs.Book.{Book, IsMarked, with_kept, IsNewList, IsBook}
-use Rattle.path_book.specs.Layout.{view_of, IsStored, IsCalm}
-use Rattle.path_book.specs.Flags.{Flags}
+use Rattle.path_book.specs.Layout.{view_of, IsStored, IsClean}
+use Rattle.path_book.specs.Dirty.{Dirty}
 use Rattle.path_book.proofs.Formed.{IsNew}
 use Rattle.path_book.proofs.Forms.{stored_reserved, AsksMet, asks_met, IsFormed, is_formed, is_taken_back, on_err, new_join, join_ends}
-use Rattle.path_book.proofs.Calm.{rows_in_flags, calm_formed}
+use Rattle.path_book.proofs.Clean.{clean_all}
 use Rattle.path_book.proofs.book.Book.form_join.Goals as goal
 
 pub reserve-requires : goal.reserve-requires
@@ -20,7 +20,7 @@ reserved c = stored_reserved (view_of c.self.inside) c.self.inside.heaps c.reser
 pub invariant_of-self-in_err-id : goal.invariant_of-self-in_err-id
 invariant_of-self-in_err-id c = record {
   stored = subst (λ (a : Arena). IsStored (record { arena = a; marked = (view_of c.self.inside).marked; lists = c.self.inside.lists }) c.reserve.new.self c.self.inside.historical c.self.inside.pending) (sym c.in_err-id.ensures.memory) (reserved c);
-  stirred = subst (λ (a : Arena). IsCalm (record { arena = a; marked = (view_of c.self.inside).marked; lists = c.self.inside.lists }) c.self.inside.stirred) (sym c.in_err-id.ensures.memory) c.self.invariant.stirred;
+  dirty = subst (λ (a : Arena). IsClean (record { arena = a; marked = (view_of c.self.inside).marked; lists = c.self.inside.lists }) c.self.inside.dirty) (sym c.in_err-id.ensures.memory) c.self.invariant.dirty;
 }
 
 -- the new path in the old book
@@ -50,7 +50,7 @@ invariant_of-self-in_err-admit c = record {
       subst (λ (b : Book). IsStored b c.admit.new.heaps c.self.inside.historical c.self.inside.pending) (sym (as_before c))
       (subst (λ h. IsStored (view_of c.self.inside) h c.self.inside.historical c.self.inside.pending) (sym c.in_err-admit.ensures.heaps_kept)
       (stored_reserved (view_of c.self.inside) c.self.inside.heaps c.reserve.new.self c.first-from.result c.last-to.result _ _ c.self.invariant.stored (c.reserve.ensures.fits c.self.inside.arena).0 c.in_ok-reserve.ensures.ok));
-  stirred = subst (λ (b : Book). IsCalm b c.self.inside.stirred) (sym (as_before c)) c.self.invariant.stirred;
+  dirty = subst (λ (b : Book). IsClean b c.self.inside.dirty) (sym (as_before c)) c.self.invariant.dirty;
 }
 
 pub returns-in_err-admit-clause-lawful : goal.returns-in_err-admit-clause-lawful
@@ -77,27 +77,14 @@ formed c =
     c.in_ok-id.ensures.added c.in_ok-admit.ensures.kept c.in_ok-admit.ensures.admitted
     (let most : c.self.inside.historical + c.self.inside.pending ≤ 2 ^ 48 = c.self.invariant.stored.most in let apart : c.self.inside.historical + c.self.inside.pending ≢ 2 ^ 48 = c.if-self-eq-MOST_PATHS.false in omega arith)
 
-pub stir-requires : goal.stir-requires
-stir-requires c =
-    let ends = join_ends c.self.inside.arena c.self.inside.heaps c.args.l c.args.r 0 _ _ c.self.invariant.stored.book.arena c.self.invariant.stored.heaps.fits (subst (λ (b : Book). CanJoin b.arena c.args.l c.args.r) (sym c.self.view_is) c.requires.join) c.first-from.ensures.value c.last-to.ensures.value in
-    record {
-      from = rows_in_flags (view_of c.self.inside) c.self.inside.heaps c.self.inside.stirred c.first-from.result c.self.invariant.stirred c.self.invariant.stored.heaps.fits ends.from;
-      to = rows_in_flags (view_of c.self.inside) c.self.inside.heaps c.self.inside.stirred c.last-to.result c.self.invariant.stirred c.self.invariant.stored.heaps.fits ends.to;
-    }
-
 pub invariant_of-self-2 : goal.invariant_of-self-2
-invariant_of-self-2 c =
-    let ends = join_ends c.self.inside.arena c.self.inside.heaps c.args.l c.args.r c.args.birth _ _ c.self.invariant.stored.book.arena c.self.invariant.stored.heaps.fits (subst (λ (b : Book). CanJoin b.arena c.args.l c.args.r) (sym c.self.view_is) c.requires.join) c.first-from.ensures.value c.last-to.ensures.value in
-    record {
-      stored = (formed c).stored;
-      stirred =
-          subst (λ (b : Book). IsCalm b c.stir.new.self) (sym (formed c).same)
-          (subst (λ (s : Flags). IsCalm (with_kept (view_of c.self.inside) c.in_ok-id.id (joined_path c.self.inside.arena c.args.l c.args.r c.args.birth)) s) (sym c.stir.ensures)
-          (calm_formed (view_of c.self.inside) c.in_ok-id.id _ c.self.inside.stirred c.first-from.result c.last-to.result c.self.invariant.stored.book (made c) c.self.invariant.stirred
-          (rows_in_flags (view_of c.self.inside) c.self.inside.heaps c.self.inside.stirred c.first-from.result c.self.invariant.stirred c.self.invariant.stored.heaps.fits ends.from)
-          (rows_in_flags (view_of c.self.inside) c.self.inside.heaps c.self.inside.stirred c.last-to.result c.self.invariant.stirred c.self.invariant.stored.heaps.fits ends.to)
-          ends.begins ends.finishes));
-    }
+invariant_of-self-2 c = record {
+  stored = (formed c).stored;
+  dirty =
+      subst (λ (b : Book). IsClean b c.note_all.new.self) (sym (formed c).same)
+      (subst (λ (d : Dirty). IsClean (with_kept (view_of c.self.inside) c.in_ok-id.id (joined_path c.self.inside.arena c.args.l c.args.r c.args.birth)) d) (sym c.note_all.ensures)
+      (clean_all (view_of c.self.inside) _ c.self.inside.dirty c.self.invariant.dirty refl));
+}
 
 pub returns-clause-formed : goal.returns-clause-formed
 returns-clause-formed c = (formed c).same ∙ ap (λ (b : Book). with_kept b c.in_ok-id.id (joined_path b.arena c.args.l c.args.r c.args.birth)) c.self.view_is

@@ -1,7 +1,7 @@
 use Rattle.std.proofs.Common.{sym}
 use Rattle.path_book.specs.Layout.{marked_in, IsStored}
 use Rattle.path_book.proofs.Opening.{opened_all}
-use Rattle.path_book.proofs.Calm.{calm_opening}
+use Rattle.path_book.proofs.Clean.{clean_opening}
 use Rattle.path_book.proofs.book.Book.new.Goals as goal
 
 stored : (c : goal.In_ok-enter_vertices) → IsStored (record { arena = c.in_ok-arena.arena; marked = marked_in c.enter_vertices.new.marks.items; lists = c.enter_vertices.new.lists }) c.in_ok-heaps.heaps 0 0
@@ -12,9 +12,9 @@ stored c =
 pub invariant_of-result : goal.invariant_of-result
 invariant_of-result c = record {
   stored = stored c;
-  stirred =
-      calm_opening (record { arena = c.in_ok-arena.arena; marked = marked_in c.enter_vertices.new.marks.items; lists = c.enter_vertices.new.lists }) c.args.n c.in_ok-stirred.stirred (stored c).book
-      (record { vertices = c.in_ok-arena.ensures.opening.vertices; live = c.in_ok-arena.ensures.opening.live }) (sym c.in_ok-stirred.ensures.vertices);
+  dirty =
+      clean_opening (record { arena = c.in_ok-arena.arena; marked = marked_in c.enter_vertices.new.marks.items; lists = c.enter_vertices.new.lists }) c.args.n c.in_ok-dirty.dirty (stored c).book
+      (record { vertices = c.in_ok-arena.ensures.opening.vertices; live = c.in_ok-arena.ensures.opening.live }) (sym c.in_ok-dirty.ensures.vertices);
 }
 
 pub returns-clause-opening : goal.returns-clause-opening

@@ -2,10 +2,10 @@ use Rattle.std.proofs.Common.{◌≡◌, ◌+◌, ◌-◌, ◌≤◌, slice_set,
 use Rattle.extension_lists.specs.Known.{IsStarred}
 use Rattle.path_arena.specs.Arena.{IsLive, path_of}
 use Rattle.path_book.specs.Book.{Book, IsMarked, with_mark, left_id, right_id, IsBook}
-use Rattle.path_book.specs.Layout.{view_of, marked_in, IsStored, IsCalm}
+use Rattle.path_book.specs.Layout.{view_of, marked_in, IsStored, IsClean}
 use Rattle.path_book.proofs.Promoted.{stored_promoted, is_starred, is_promoted}
 use Rattle.path_book.proofs.Readers.{pending_has_edge}
-use Rattle.path_book.proofs.Calm.{calm_promoted}
+use Rattle.path_book.proofs.Clean.{clean_promoted}
 use Rattle.path_book.proofs.book.Book.promote.Goals as goal
 
 pub left_part-left-requires : goal.left_part-left-requires
@@ -55,7 +55,7 @@ same c =
 pub invariant_of-self-2 : goal.invariant_of-self-2
 invariant_of-self-2 c = record {
   stored = subst (λ (b : Book). IsStored b c.self.inside.heaps (c.self.inside.historical + 1) (c.self.inside.pending - 1)) (sym (same c)) (stored_now c);
-  stirred = subst (λ (b : Book). IsCalm b c.self.inside.stirred) (sym (same c)) (calm_promoted (view_of c.self.inside) c.args.id c.add_star.new.self c.self.inside.stirred c.self.invariant.stirred);
+  dirty = subst (λ (b : Book). IsClean b c.self.inside.dirty) (sym (same c)) (clean_promoted (view_of c.self.inside) c.args.id c.add_star.new.self c.self.inside.dirty c.self.invariant.dirty);
 }
 
 pub returns-clause-marked : goal.returns-clause-marked

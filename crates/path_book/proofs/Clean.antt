@@ -1,44 +1,28 @@
--- Of each pair that is not stirred the least kept path, if there is one, is historical.
+-- Of each pair that is not dirty the least kept path, if there is one, is historical.
 use Rattle.std.specs.Prelude.{◌≡◌, ◌≢◌, ℕ, ◌<◌, Bool, true, false, [], ◌∷◌, length, Option, Some, None, MatchOption, IsNone, is_some, unwrap_or, refl}
 use Rattle.std.specs.FinSet as set
-use Rattle.std.proofs.Common.{sym, ◌∙◌, ap, subst, arith, inl, inr, set as set_at}
-use Rattle.std.proofs.lemmas.Bool.{cases_eq, cases_lt, false≢true, true≢false}
-use Rattle.std.proofs.lemmas.List.{get_or-set_same, get_or-set_other, get_or_past, length-set}
+use Rattle.std.proofs.Common.{sym, ◌∙◌, ap, subst, arith, inl, inr}
+use Rattle.std.proofs.lemmas.Bool.{cases_eq, false≢true, true≢false}
 use Rattle.apsp_model.specs.Order.{path_cmp}
 use Rattle.apsp_model.specs.Walk.{first, last}
 use Rattle.path_arena.specs.Arena.{Path, path_at, vertex_of, IsLive, no_path, path_of, list_of, single, HasAnEdge, id_cmp, with_path}
 use Rattle.path_arena.proofs.Keys.{get_put_other, get_gone, get_gone_other}
 use Rattle.path_arena.proofs.Paths.{path_of_at, live_from_edge}
-use Rattle.pair_heaps.specs.Heaps.{Heaps, Fits, HasEnds, place_of}
-use Rattle.pair_heaps.proofs.Places.{place_once, ends_inside}
+use Rattle.pair_heaps.specs.Heaps.{HasEnds}
+use Rattle.pair_heaps.proofs.Places.{ends_inside}
 use Rattle.extension_lists.specs.Known.{Known}
 use Rattle.path_book.specs.Book.{Book, IsMarked, with_kept, with_mark, IsForgotten, IsOpening, IsBook, IsLeastKept, KeepsNone, IsPendingLeast, HasNoPendingLeast}
-use Rattle.path_book.specs.Flags.{Flags, flag_at, with_flag}
-use Rattle.path_book.specs.Layout.{IsCalm}
+use Rattle.path_book.specs.Dirty.{Dirty, is_dirty, with_all, IsNoted}
+use Rattle.path_book.specs.Layout.{IsClean}
 use Rattle.path_book.proofs.Sets.{marked_put, marked_put_other, marked_gone_other}
 use Rattle.path_book.proofs.Formed.{IsNew, same_pair, ends_alike, path_of_new}
 use Rattle.path_book.proofs.Readers.{least_single}
 
--- ---- the flags
+-- ---- the pairs
 
-pub flag_up : (s : Flags) (x y : ℕ) → flag_at (with_flag s x y true) x y ≡ true
-flag_up s x y = elim (cases_lt (place_of s.vertices x y) (length s.flags)) [
-  | inl inside ↦ get_or-set_same s.flags (place_of s.vertices x y) true true inside
-  | inr past ↦ get_or_past (set_at s.flags (place_of s.vertices x y) true) (place_of s.vertices x y) true (omega (arith, past, length-set s.flags (place_of s.vertices x y) true))
-]
-
-pub flag_other : (s : Flags) (x y u v : ℕ) (up : Bool) → x < s.vertices → y < s.vertices → (u ≡ x → v ≡ y → ⊥) → flag_at (with_flag s x y up) u v ≡ flag_at s u v
-flag_other s x y u v up from to apart =
-    get_or-set_other s.flags (place_of s.vertices x y) (place_of s.vertices u v) up true
-    (λ same. let one : (u ≡ x) × (v ≡ y) = place_once s.vertices x y u v from to same in apart one.0 one.1)
-
--- a vertex of the book has flags
-pub in_flags : (b seen : Book) (s : Flags) (x : ℕ) → IsCalm b s → b ≡ seen → x < seen.arena.vertices → x < s.vertices
-in_flags b seen s x calm is inside = subst (λ n. x < n) calm.vertices (subst (λ (c : Book). x < c.arena.vertices) (sym is) inside)
-
--- .. as it has heaps
-pub rows_in_flags : (b : Book) (h : Heaps) (s : Flags) (x : ℕ) → IsCalm b s → Fits h b.arena → x < h.vertices → x < s.vertices
-rows_in_flags b h s x calm fits inside = subst (λ n. x < n) (sym fits.vertices ∙ calm.vertices) inside
+-- a vertex of the book stands in pairs
+pub in_pairs : (b seen : Book) (d : Dirty) (x : ℕ) → IsClean b d → b ≡ seen → x < seen.arena.vertices → x < d.vertices
+in_pairs b seen d x clean is inside = subst (λ n. x < n) clean.vertices (subst (λ (c : Book). x < c.arena.vertices) (sym is) inside)
 
 -- ---- a change of one pair
 
@@ -99,18 +83,18 @@ module _ (old new : Book) (id x y : ℕ) (agree : AgreeBut old new id x y) (u v 
     | inr least ↦ inr (least.0, least_still least.0 least.1, agree.marks least.0 (apart_before least.0 least.1.live least.1.ends) least.2)
   ]
 
--- the pair of the id is stirred
-pub calm_but : (old new : Book) (s : Flags) (id x y : ℕ) → IsCalm old s → x < s.vertices → y < s.vertices → AgreeBut old new id x y → IsCalm new (with_flag s x y true)
-calm_but old new s id x y calm from to agree = record {
-  vertices = agree.vertices ∙ calm.vertices;
-  calm = λ u v u_in v_in down. elim (same_pair x y u v) [
-    | inl here ↦ absurd (true≢false (sym (flag_up s x y) ∙ (λ i. flag_at (with_flag s x y true) (sym here.0 i) (sym here.1 i)) ∙ down))
-    | inr other ↦ no_pending_still old new id x y agree u v other (calm.calm u v u_in v_in (sym (flag_other s x y u v true from to other) ∙ down))
+-- the pair of the id is dirty
+pub clean_but : (old new : Book) (d noted : Dirty) (id x y : ℕ) → IsClean old d → IsNoted d noted x y → AgreeBut old new id x y → IsClean new noted
+clean_but old new d noted id x y clean note agree = record {
+  vertices = agree.vertices ∙ clean.vertices ∙ sym note.vertices;
+  clean = λ u v u_in v_in none. elim (same_pair x y u v) [
+    | inl here ↦ absurd (true≢false (sym note.here ∙ (λ i. is_dirty noted (sym here.0 i) (sym here.1 i)) ∙ none))
+    | inr other ↦ no_pending_still old new id x y agree u v other (clean.clean u v (subst (λ n. u < n) note.vertices u_in) (subst (λ n. v < n) note.vertices v_in) (note.still u v none))
   ];
 }
 
-pub calm_formed : (b : Book) (id : ℕ) (p : Path) (s : Flags) (x y : ℕ) → IsBook b → IsNew b id p → IsCalm b s → x < s.vertices → y < s.vertices → first p.list ≡ Some x → last p.list ≡ Some y → IsCalm (with_kept b id p) (with_flag s x y true)
-calm_formed b id p s x y was new calm from to begins finishes = calm_but b (with_kept b id p) s id x y calm from to (record {
+pub clean_formed : (b : Book) (id : ℕ) (p : Path) (d noted : Dirty) (x y : ℕ) → IsBook b → IsNew b id p → IsClean b d → IsNoted d noted x y → first p.list ≡ Some x → last p.list ≡ Some y → IsClean (with_kept b id p) noted
+clean_formed b id p d noted x y was new clean note begins finishes = clean_but b (with_kept b id p) d noted id x y clean note (record {
   vertices = refl;
   paths = λ q apart. get_put_other b.arena.paths id p q apart;
   marks = λ q apart mark. mark;
@@ -120,8 +104,8 @@ calm_formed b id p s x y was new calm from to begins finishes = calm_but b (with
       (ap (λ q. first q.list) (path_of_new b id p was new) ∙ begins, ap (λ q. last q.list) (path_of_new b id p was new) ∙ finishes) ends;
 })
 
-pub calm_forgotten : (b new : Book) (id : ℕ) (s : Flags) (x y : ℕ) → IsForgotten b new id → IsCalm b s → x < s.vertices → y < s.vertices → HasEnds b.arena id x y → IsCalm new (with_flag s x y true)
-calm_forgotten b new id s x y forgotten calm from to ends = calm_but b new s id x y calm from to (record {
+pub clean_forgotten : (b new : Book) (id : ℕ) (d noted : Dirty) (x y : ℕ) → IsForgotten b new id → IsClean b d → IsNoted d noted x y → HasEnds b.arena id x y → IsClean new noted
+clean_forgotten b new id d noted x y forgotten clean note ends = clean_but b new d noted id x y clean note (record {
   vertices = ap (λ a. a.vertices) forgotten.arena;
   paths = λ q apart. ap (λ a. path_at a q) forgotten.arena ∙ get_gone_other b.arena.paths id q apart;
   marks = λ q apart mark. ap (λ m. set.contains m q) forgotten.marked ∙ marked_gone_other b.marked id q apart ∙ mark;
@@ -129,19 +113,44 @@ calm_forgotten b new id s x y forgotten calm from to ends = calm_but b new s id 
   after = λ u v live there. absurd (false≢true (sym (ap is_some (ap (λ a. path_at a id) forgotten.arena ∙ get_gone b.arena.paths id)) ∙ live));
 })
 
--- the ends of a path with an edge have flags
-pub ends_in_flags : (b seen : Book) (s : Flags) (id x y : ℕ) → IsBook b → IsCalm b s → b ≡ seen → HasAnEdge seen.arena id → first (list_of b.arena id) ≡ Some x → last (list_of b.arena id) ≡ Some y → (x < s.vertices) × (y < s.vertices)
-ends_in_flags b seen s id x y was calm is edge begins finishes =
+-- the ends of a path with an edge are vertices of the book
+pub ends_in_pairs : (b seen : Book) (d : Dirty) (id x y : ℕ) → IsBook b → IsClean b d → b ≡ seen → HasAnEdge seen.arena id → first (list_of b.arena id) ≡ Some x → last (list_of b.arena id) ≡ Some y → (x < d.vertices) × (y < d.vertices)
+ends_in_pairs b seen d id x y was clean is edge begins finishes =
     let live : IsLive b.arena id = live_from_edge b.arena id was.arena (subst (λ (c : Book). HasAnEdge c.arena id) (sym is) edge) in
     let inside = ends_inside b.arena id x y was.arena live (begins, finishes) in
-    (subst (λ n. x < n) calm.vertices inside.0, subst (λ n. y < n) calm.vertices inside.1)
+    (subst (λ n. x < n) clean.vertices inside.0, subst (λ n. y < n) clean.vertices inside.1)
 
 -- ---- the other calls
 
-pub calm_promoted : (b : Book) (id : ℕ) (lists : Known) (s : Flags) → IsCalm b s → IsCalm (with_mark b id lists) s
-calm_promoted b id lists s calm = record {
-  vertices = calm.vertices;
-  calm = λ u v u_in v_in down. elim (calm.calm u v u_in v_in down) [
+-- where all pairs are dirty there is nothing to show
+pub clean_all : (b new : Book) (d : Dirty) → IsClean b d → new.arena.vertices ≡ b.arena.vertices → IsClean new (with_all d)
+clean_all b new d clean same = record { vertices = same ∙ clean.vertices; clean = λ u v u_in v_in none. absurd (true≢false none) }
+
+-- the same pairs are dirty
+pub clean_same : (b : Book) (d listed : Dirty) → IsClean b d → listed.vertices ≡ d.vertices → ((x y : ℕ) → x < d.vertices → y < d.vertices → is_dirty listed x y ≡ is_dirty d x y) → IsClean b listed
+clean_same b d listed clean vertices same = record {
+  vertices = clean.vertices ∙ sym vertices;
+  clean = λ u v u_in v_in none. (
+      let u_was : u < d.vertices = subst (λ n. u < n) vertices u_in in
+      let v_was : v < d.vertices = subst (λ n. v < n) vertices v_in in
+      clean.clean u v u_was v_was (sym (same u v u_was v_was) ∙ none)
+      );
+}
+
+-- no pair has a least path that is not historical
+pub clean_cleared : (b seen : Book) (d cleared : Dirty) → IsClean b d → b ≡ seen → cleared.vertices ≡ d.vertices → ((x y : ℕ) → x < seen.arena.vertices → y < seen.arena.vertices → HasNoPendingLeast seen x y) → IsClean b cleared
+clean_cleared b seen d cleared clean is vertices all = record {
+  vertices = clean.vertices ∙ sym vertices;
+  clean = λ u v u_in v_in none. (
+      let as_many : cleared.vertices ≡ seen.arena.vertices = vertices ∙ sym clean.vertices ∙ ap (λ (c : Book). c.arena.vertices) is in
+      subst (λ (c : Book). HasNoPendingLeast c u v) (sym is) (all u v (subst (λ n. u < n) as_many u_in) (subst (λ n. v < n) as_many v_in))
+      );
+}
+
+pub clean_promoted : (b : Book) (id : ℕ) (lists : Known) (d : Dirty) → IsClean b d → IsClean (with_mark b id lists) d
+clean_promoted b id lists d clean = record {
+  vertices = clean.vertices;
+  clean = λ u v u_in v_in none. elim (clean.clean u v u_in v_in none) [
     | inl none ↦ inl none
     | inr least ↦ inr (
       least.0,
@@ -154,20 +163,10 @@ calm_promoted b id lists s calm = record {
   ];
 }
 
--- a look at a pair shows that it is calm
-pub calm_looked : (b : Book) (s : Flags) (x y : ℕ) → IsCalm b s → x < s.vertices → y < s.vertices → HasNoPendingLeast b x y → IsCalm b (with_flag s x y false)
-calm_looked b s x y calm from to none = record {
-  vertices = calm.vertices;
-  calm = λ u v u_in v_in down. elim (same_pair x y u v) [
-    | inl here ↦ subst (λ w. HasNoPendingLeast b w v) (sym here.0) (subst (λ w. HasNoPendingLeast b x w) (sym here.1) none)
-    | inr other ↦ calm.calm u v u_in v_in (sym (flag_other s x y u v false from to other) ∙ down)
-  ];
-}
-
-pub calm_opening : (b : Book) (n : ℕ) (s : Flags) → IsBook b → IsOpening b n → n ≡ s.vertices → IsCalm b s
-calm_opening b n s was opening as_many = record {
+pub clean_opening : (b : Book) (n : ℕ) (d : Dirty) → IsBook b → IsOpening b n → n ≡ d.vertices → IsClean b d
+clean_opening b n d was opening as_many = record {
   vertices = opening.vertices ∙ as_many;
-  calm = λ u v u_in v_in down. elim (cases_eq u v) [
+  clean = λ u v u_in v_in none. elim (cases_eq u v) [
     | inl same ↦
         let inside : u < b.arena.vertices = omega (arith, u_in, opening.vertices, as_many) in
         inr (vertex_of b.arena u, subst (λ w. IsLeastKept b u w (vertex_of b.arena u)) same (least_single b was u inside), was.singles u inside)
@@ -181,8 +180,3 @@ calm_opening b n s was opening as_many = record {
         ))
   ];
 }
-
--- what a look shows that found nothing
-pub found_none : (b : Book) (x y : ℕ) (o : Option ℕ) → IsNone o → MatchOption o (HasNoPendingLeast b x y) (IsPendingLeast b x y) → HasNoPendingLeast b x y
-found_none b x y None none h = h
-found_none b x y (Some id) none h = absurd (true≢false none)
