@@ -1,2 +1,5 @@
 mod Sound
 mod Granting
+mod Totals
+mod Steps
+mod Vertices

@@ -1,2 +1,5 @@
 pub mod Machine
 pub mod Soundness
+pub mod Marks
+pub mod Announced
+pub mod Pooled
