@@ -8,7 +8,7 @@ use std::marker::Model;
 /// The vertices of a walk from its first to its last. Contracts see them as a list.
 #[derive(Debug, Drop)]
 pub struct VertexList {
-    items: Vec<u32>,
+    pub(crate) items: Vec<u32>,
 }
 
 impl Model for VertexList {
@@ -42,7 +42,7 @@ pub struct Answer {
 /// The answers to the questions of a block, in their order. Contracts see them as a list.
 #[derive(Drop)]
 pub struct BlockAnswers {
-    items: Vec<Answer>,
+    pub(crate) items: Vec<Answer>,
 }
 
 impl Model for BlockAnswers {

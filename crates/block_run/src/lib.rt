@@ -5,7 +5,15 @@
 mod answers;
 mod asks;
 mod live;
+mod order;
+mod publish;
+mod read;
 
 pub use answers::{Answer, BlockAnswers, VertexList};
 pub use asks::{Ask, Asks};
-pub use live::{MOST_READERS, live_block};
+pub use live::live_block;
+pub use version_pool::MOST_READERS;
+
+
+#[cfg(test)]
+mod tests;
