@@ -1,6 +1,6 @@
 -- The publisher beside the engine.
-use Rattle.std.specs.Prelude.{◌≡◌, ℕ, ◌+◌, ◌<◌, false, length}
-use Rattle.graph_store.specs.Plan.{Plan, IsVersionOf, hi_of}
+use Rattle.std.specs.Prelude.{◌≡◌, ℕ, ◌+◌, false, length}
+use Rattle.graph_store.specs.Plan.{Plan, IsVersionOf}
 use Rattle.history_engine.specs.Seen.{Seen}
 use Rattle.version_pool.specs.Pooled.{Pool, Publisher, IsPublisherOf}
 use Rattle.block_run.specs.Run.{IsStartOf}

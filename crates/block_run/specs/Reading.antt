@@ -1,5 +1,8 @@
 -- The readers, and what each of them answers.
-use Rattle.std.specs.Prelude.{◌≡◌, ℕ, ◌+◌, ◌*◌, ◌<◌, ◌≤◌, List, All, length, slice_index_or}
+use Rattle.std.specs.Prelude.{◌≡◌, ℕ, ◌+◌, ◌*◌, ◌<◌, ◌≤◌, List, All, Result, IfOk, length, slice_index_or}
+use Rattle.std.specs.declared.vec.Vec.{Vec}
+use Rattle.std.specs.declared.alloc.Global.{Global}
+use Rattle.apsp_model.specs.declared.Memory.{Memory}
 use Rattle.graph_store.specs.Plan.{Plan, IsPlan}
 use Rattle.version_face.specs.Seen.{Seen}
 use Rattle.version_pool.specs.Pooled.{Pool, IsReaderOf}
@@ -49,3 +52,9 @@ pub record AnswersSome (plan : Plan) (asks : List Ask) (who step : ℕ) (answers
 pub record AnswersAll (plan : Plan) (asks : List Ask) (who step : ℕ) (answers : List Answer) : Type 0 where
   pub some : AnswersSome plan asks who step answers
   pub whole : length asks ≤ who + length answers * step
+
+-- what the readers answer, each in its place, but for those that ran out of memory
+pub record AreLists (plan : Plan) (asks : List Ask) (readers : List BlockReader) (lists : List (Result (Vec Answer Global) Memory)) : Type 0 where
+  pub len : length lists ≡ length readers
+  pub each : (k : ℕ) (d : Result (Vec Answer Global) Memory) (e : BlockReader) → k < length readers
+      → IfOk (slice_index_or lists k d) (λ a. AnswersAll plan asks (slice_index_or readers k e).who (length readers) a.items)

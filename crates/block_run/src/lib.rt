@@ -14,6 +14,5 @@ pub use asks::{Ask, Asks};
 pub use live::live_block;
 pub use version_pool::MOST_READERS;
 
-
 #[cfg(test)]
 mod tests;

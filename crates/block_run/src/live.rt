@@ -2,20 +2,20 @@
 
 ghost use Rattle.std.specs.Prelude.{◌≡◌, ℕ, ◌<◌, ◌≤◌, All, IfOk, IfSome, IsSomeAnd, OnOk, OnErr, vec_len, slice_index_or};
 ghost use Rattle.version_pool.specs.Pooled.{IsReaderOf};
-ghost use Rattle.block_run.specs.Answers.{BlockReply};
+ghost use Rattle.block_run.specs.Answers.{BlockReply, IsAskOf};
 ghost use Rattle.block_run.specs.Run.{AdvancesBy, CanRun, IsCutOff};
 ghost use Rattle.block_run.specs.Publishing.{CanPublish};
-ghost use Rattle.block_run.specs.Reading.{AnswersAll, AreAsksOf, AreNumbered};
+ghost use Rattle.block_run.specs.Reading.{AnswersAll, AreAsksOf, AreLists, AreNumbered};
 
-use crate::order::in_order;
+use crate::order::{in_order, unwrapped};
 use crate::publish::publish_or_stop;
-use crate::read::{BlockReader, answer_all};
+use crate::read::{BlockReader, answer_all, numbered};
 use crate::{Answer, Ask, Asks, BlockAnswers};
 use apsp_io::Gate;
 use apsp_model::Memory;
 use graph_store::Plan;
 use history_engine::Engine;
-use pin_cells::{MOST_SLOTS, Tally};
+use pin_cells::MOST_SLOTS;
 use std::alloc::Global;
 use std::marker::Sync;
 use std::sync::Wait;
@@ -23,7 +23,7 @@ use std::sync::atomic::AtomicBool;
 use std::thread;
 use std::thread::{Threads, join_mut};
 use version_face::Version;
-use version_pool::{MOST_READERS, Pool, PoolParts, Publisher, Reader};
+use version_pool::{MOST_READERS, Pool, PoolParts, Publisher};
 
 /// Takes the updates of the plan one after another, and publishes a version after each, while so
 /// many readers answer the questions. The question with number i is answered by the reader i modulo
@@ -81,26 +81,7 @@ pub fn live_block<R: Threads + Wait + Sync, G: Gate>(
     Ok(BlockAnswers { items })
 }
 
-/// The readers with their numbers, from 0 on.
-fn numbered(alloc: Global, readers: Vec<Reader>) -> Result<Vec<BlockReader>, Memory>
-    ensures len { IfOk result (λ all. vec_len all ≡ vec_len readers) }
-    ensures numbered { IfOk result (λ all. AreNumbered all.items) }
-    ensures same { (pool : _) → All (IsReaderOf pool) readers.items → IfOk result (λ all. All (λ r. IsReaderOf pool r.reader) all.items) }
-{
-    let mut all = Vec::with_capacity(alloc, readers.len()).map_err(|_| Memory)?;
-    for reader in readers {
-        let reader = BlockReader {
-            who: all.len() as u32,
-            reader,
-            tally: Tally::new(),
-        };
-        all.push(reader).map_err(|_| Memory)?;
-    }
-    Ok(all)
-}
-
-/// The readers in threads of their own beside the publisher, which runs in this one. A list of
-/// answers for each reader.
+/// The lists of the readers' answers, once all updates are taken.
 fn run<R: Threads + Wait + Sync, G: Gate>(
     rt: &R,
     alloc: Global,
@@ -117,29 +98,55 @@ fn run<R: Threads + Wait + Sync, G: Gate>(
     requires readers { All (λ r. IsReaderOf pool.now r.reader) readers.items }
     requires numbered { AreNumbered readers.items }
     requires count { (1 ≤ vec_len readers) × (vec_len readers ≤ 32) }
-    requires asks { AreAsksOf plan.now plan.now.lo asks.now }
+    requires asks { All (IsAskOf plan.now) asks.now }
     requires workers { (1 ≤ workers) × (workers ≤ 64) }
     ensures len { IfOk result (λ v. vec_len v ≡ vec_len readers) }
     ensures each { IfOk result (λ v. (k : ℕ) (d : _) → k < vec_len readers → AnswersAll plan.now asks.now k (vec_len readers) (slice_index_or v.items k d).items) }
     ensures taken { OnOk result (AdvancesBy engine.old plan.now.stars engine.new) }
-    ensures cut_off { OnErr result (IsCutOff engine.old plan.now.stars engine.new) }
+    ensures cut_off { IsCutOff engine.old plan.now.stars engine.new }
 {
-    let step = readers.len() as u32;
     let lo = plan.lo();
+    let lists = run_beside(
+        rt, alloc, pool, publisher, readers, engine, plan, lo, asks, workers, gate,
+    )?;
+    unwrapped(alloc, lists)
+}
+
+/// The readers in threads of their own beside the publisher, which runs in this one.
+fn run_beside<R: Threads + Wait + Sync, G: Gate>(
+    rt: &R,
+    alloc: Global,
+    pool: &Pool<'_>,
+    publisher: &mut Publisher,
+    readers: Vec<BlockReader>,
+    engine: &mut Engine,
+    plan: &Plan,
+    lo: u64,
+    asks: &[Ask],
+    workers: u32,
+    gate: &G,
+) -> Result<Vec<Result<Vec<Answer>, Memory>>, Memory>
+    requires can { CanPublish pool.now publisher.old engine.old plan.now }
+    requires readers { All (λ r. IsReaderOf pool.now r.reader) readers.items }
+    requires count { (1 ≤ vec_len readers) × (vec_len readers ≤ 32) }
+    requires asks { AreAsksOf pool.now.plan lo asks.now }
+    requires workers { (1 ≤ workers) × (workers ≤ 64) }
+    ensures lists { IfOk result (λ v. AreLists pool.now.plan asks.now readers.items v.items) }
+    ensures taken { OnOk result (AdvancesBy engine.old plan.now.stars engine.new) }
+    ensures cut_off { IsCutOff engine.old plan.now.stars engine.new }
+{
     let told = AtomicBool::new(false);
     let stop = &told;
     let mut waiting = Some(readers);
     let (lists, published) = join_mut(
         rt,
         &mut || -> Result<Vec<Result<Vec<Answer>, Memory>>, Memory>
-            requires readers { IsSomeAnd waiting (λ r. All (λ r. IsReaderOf pool.now r.reader) r.items × (step ≡ vec_len r)) }
-            requires step { (1 ≤ step) × (step ≤ 32) }
+            requires readers { IsSomeAnd waiting (λ r. All (λ r. IsReaderOf pool.now r.reader) r.items × (1 ≤ vec_len r) × (vec_len r ≤ 32)) }
             requires asks { AreAsksOf pool.now.plan lo asks.now }
-            ensures len { IfSome waiting.entry (λ r. IfOk result (λ v. vec_len v ≡ vec_len r)) }
-            ensures each { IfSome waiting.entry (λ r. IfOk result (λ v. (k : ℕ) (d : _) (e : _) → k < vec_len r → IfOk (slice_index_or v.items k d) (λ a. AnswersAll pool.entry.now.plan asks.entry.now (slice_index_or r.items k e).who step a.items))) }
+            ensures { IfSome waiting.entry (λ r. IfOk result (λ v. AreLists pool.entry.now.plan asks.entry.now r.items v.items)) }
         {
             match waiting.take() {
-                Some(readers) => read(rt, alloc, pool, readers, step, lo, asks, stop, gate),
+                Some(readers) => read(rt, alloc, pool, readers, lo, asks, stop, gate),
                 None => unreachable!(),
             }
         },
@@ -147,15 +154,35 @@ fn run<R: Threads + Wait + Sync, G: Gate>(
             requires can { CanPublish pool.now publisher.now engine.now plan.now }
             requires workers { (1 ≤ workers) × (workers ≤ 64) }
             ensures taken { OnOk result (AdvancesBy engine.entry.now plan.entry.now.stars engine.exit.now) }
-            ensures cut_off { OnErr result (IsCutOff engine.entry.now plan.entry.now.stars engine.exit.now) }
+            ensures cut_off { IsCutOff engine.entry.now plan.entry.now.stars engine.exit.now }
         { publish_or_stop(rt, pool, publisher, engine, plan, workers, stop, gate) },
     );
     published?;
-    unwrapped(alloc, lists?)
+    lists
+}
+
+/// All readers, with a list of answers for each.
+fn read<R: Threads + Wait + Sync, G: Gate>(
+    rt: &R,
+    alloc: Global,
+    pool: &Pool<'_>,
+    readers: Vec<BlockReader>,
+    lo: u64,
+    asks: &[Ask],
+    stop: &AtomicBool,
+    gate: &G,
+) -> Result<Vec<Result<Vec<Answer>, Memory>>, Memory>
+    requires readers { All (λ r. IsReaderOf pool.now r.reader) readers.items }
+    requires count { (1 ≤ vec_len readers) × (vec_len readers ≤ 32) }
+    requires asks { AreAsksOf pool.now.plan lo asks.now }
+    ensures { IfOk result (λ v. AreLists pool.now.plan asks.now readers.items v.items) }
+{
+    let step = readers.len() as u32;
+    read_each(rt, alloc, pool, readers, step, lo, asks, stop, gate)
 }
 
 /// All readers, each in a thread of its own where one can be made, and otherwise behind another.
-fn read<R: Threads + Wait + Sync, G: Gate>(
+fn read_each<R: Threads + Wait + Sync, G: Gate>(
     rt: &R,
     alloc: Global,
     pool: &Pool<'_>,
@@ -179,19 +206,4 @@ fn read<R: Threads + Wait + Sync, G: Gate>(
         ensures { IfOk result (λ all. AnswersAll pool.entry.now.plan asks.entry.now reader.who step all.items) }
     { answer_all(rt, alloc, pool, reader, step, lo, asks, stop, gate) };
     thread::map_vec(rt, readers, &run).map_err(|_| Memory)
-}
-
-/// The lists, where no reader ran out of memory.
-fn unwrapped(
-    alloc: Global,
-    lists: Vec<Result<Vec<Answer>, Memory>>,
-) -> Result<Vec<Vec<Answer>>, Memory>
-    ensures len { IfOk result (λ v. vec_len v ≡ vec_len lists) }
-    ensures each { IfOk result (λ v. (k : ℕ) (d e : _) → k < vec_len lists → slice_index_or lists.items k d ≡ Ok (slice_index_or v.items k e)) }
-{
-    let mut all = Vec::with_capacity(alloc, lists.len()).map_err(|_| Memory)?;
-    for list in lists {
-        all.push(list?).map_err(|_| Memory)?;
-    }
-    Ok(all)
 }

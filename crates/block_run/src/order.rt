@@ -1,6 +1,6 @@
 //! The answers of the readers, put into the order of the questions.
 
-ghost use Rattle.std.specs.Prelude.{◌≡◌, ℕ, ◌/◌, ◌%◌, ◌<◌, length, IfOk, vec_len, slice_index_or};
+ghost use Rattle.std.specs.Prelude.{◌≡◌, ℕ, ◌/◌, ◌%◌, ◌<◌, length, IfOk, Ok, vec_len, slice_index_or, map};
 
 use crate::{Answer, VertexList};
 use apsp_model::Memory;
@@ -57,4 +57,18 @@ fn take_from(alloc: Global, list: &mut [Answer], place: usize) -> Answer
         },
     };
     mem::replace(&mut list[place], empty)
+}
+
+/// The lists, where no reader ran out of memory.
+pub(crate) fn unwrapped(
+    alloc: Global,
+    lists: Vec<Result<Vec<Answer>, Memory>>,
+) -> Result<Vec<Vec<Answer>>, Memory>
+    ensures { IfOk result (λ all. map Ok all.items ≡ lists.items) }
+{
+    let mut all = Vec::with_capacity(alloc, lists.len()).map_err(|_| Memory)?;
+    for list in lists {
+        all.push(list?).map_err(|_| Memory)?;
+    }
+    Ok(all)
 }

@@ -1,7 +1,6 @@
 //! The publisher of a block.
 
-ghost use Rattle.std.specs.Prelude.{◌≡◌, ◌+◌, ◌≤◌, ◌<◌, false, true, length, OnOk, OnErr};
-ghost use Rattle.graph_store.specs.Plan.{IsVersionOf};
+ghost use Rattle.std.specs.Prelude.{◌≡◌, ◌+◌, ◌≤◌, OnOk};
 ghost use Rattle.version_pool.specs.Pooled.{IsPublisherOf};
 ghost use Rattle.block_run.specs.Run.{AdvancesBy, IsCutOff};
 ghost use Rattle.block_run.specs.Publishing.{CanPublish, IsNextOf};
@@ -49,14 +48,16 @@ pub(crate) fn publish_all<R: Threads + Wait + Sync, G: Gate>(
     requires can { CanPublish pool.now publisher.old engine.old plan.now }
     requires workers { (1 ≤ workers) × (workers ≤ 64) }
     ensures taken { OnOk result (AdvancesBy engine.old plan.now.stars engine.new) }
-    ensures cut_off { OnErr result (IsCutOff engine.old plan.now.stars engine.new) }
+    ensures cut_off { IsCutOff engine.old plan.now.stars engine.new }
 {
     for number in plan.lo()..plan.hi() {
-        let Ok(_) = engine.star(rt, plan.star(number + 1), workers, gate) else {
-            return Err(Memory);
-        };
-        publish(rt, pool, publisher, engine);
-        gate.pass(0, PUBLISHED);
+        match engine.star(rt, plan.star(number + 1), workers, gate) {
+            Ok(_) => {
+                publish(rt, pool, publisher, engine);
+                gate.pass(0, PUBLISHED);
+            }
+            Err(_) => return Err(Memory),
+        }
     }
     Ok(())
 }
@@ -75,7 +76,7 @@ pub(crate) fn publish_or_stop<R: Threads + Wait + Sync, G: Gate>(
     requires can { CanPublish pool.now publisher.old engine.old plan.now }
     requires workers { (1 ≤ workers) × (workers ≤ 64) }
     ensures taken { OnOk result (AdvancesBy engine.old plan.now.stars engine.new) }
-    ensures cut_off { OnErr result (IsCutOff engine.old plan.now.stars engine.new) }
+    ensures cut_off { IsCutOff engine.old plan.now.stars engine.new }
 {
     let published = publish_all(rt, pool, publisher, engine, plan, workers, gate);
     if published.is_err() {

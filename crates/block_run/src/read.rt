@@ -1,9 +1,10 @@
 //! The readers of a block.
 
-ghost use Rattle.std.specs.Prelude.{◌≡◌, ◌≤◌, ◌<◌, IfOk, IfSome};
+ghost use Rattle.std.specs.Prelude.{◌≡◌, ◌≤◌, ◌<◌, IfOk, IfSome, vec_len, map};
+ghost use Rattle.version_face.specs.Entries.{WalkIs};
 ghost use Rattle.version_pool.specs.Pooled.{IsReaderOf};
 ghost use Rattle.block_run.specs.Answers.{IsAskOf};
-ghost use Rattle.block_run.specs.Reading.{IsAnswerFrom, IsAnswerSeen, ReadsOn, AnswersAll, AreAsksOf};
+ghost use Rattle.block_run.specs.Reading.{IsAnswerFrom, IsAnswerSeen, ReadsOn, AnswersAll, AreAsksOf, AreNumbered};
 
 use crate::{Answer, Ask, VertexList};
 use apsp_io::{Gate, HELD};
@@ -25,6 +26,36 @@ pub(crate) struct BlockReader {
     pub tally: Tally,
 }
 
+/// The readers with their numbers, from 0 on.
+pub(crate) fn numbered(alloc: Global, readers: Vec<Reader>) -> Result<Vec<BlockReader>, Memory>
+    requires { vec_len readers ≤ 32 }
+    ensures numbered { IfOk result (λ all. AreNumbered all.items) }
+    ensures same { IfOk result (λ all. map (λ r. r.reader) all.items ≡ readers.items) }
+{
+    let mut all = Vec::with_capacity(alloc, readers.len()).map_err(|_| Memory)?;
+    for reader in readers {
+        let reader = BlockReader {
+            who: all.len() as u32,
+            reader,
+            tally: Tally::new(),
+        };
+        all.push(reader).map_err(|_| Memory)?;
+    }
+    Ok(all)
+}
+
+/// The least walk that was asked for.
+fn walk_of(alloc: Global, version: &Version, ask: &Ask) -> Result<VertexList, Memory>
+    requires from { ask.now.x < version.now.graph.vertices }
+    requires to { ask.now.y < version.now.graph.vertices }
+    ensures { IfOk result (WalkIs version.now.graph ask.now.x ask.now.y) }
+{
+    let Ok(items) = version.walk(ask.x, ask.y).collect(alloc) else {
+        return Err(Memory);
+    };
+    Ok(VertexList { items })
+}
+
 /// What the version answers, where it is not older than the least number.
 fn answer_from(
     alloc: Global,
@@ -41,13 +72,13 @@ fn answer_from(
         return Ok(None);
     }
     let dist = version.dist_row(ask.x)[ask.y as usize];
-    let items = version.walk(ask.x, ask.y).collect(alloc).map_err(|_| Memory)?;
+    let walk = walk_of(alloc, version, ask)?;
     Ok(Some(Answer {
         number,
         x: ask.x,
         y: ask.y,
         dist,
-        walk: VertexList { items },
+        walk,
     }))
 }
 
@@ -124,9 +155,11 @@ pub(crate) fn answer_all<R: Wait, G: Gate>(
     let mut at = reader.who as usize;
     while at < asks.len() {
         let ask = &asks[at];
-        let least = lo + u64::from(ask.since);
+        let least = lo + ask.since as u64;
         let found = answer(rt, alloc, pool, &mut reader, ask, least, stop, gate)?;
-        answers.push(found).map_err(|_| Memory)?;
+        let Ok(()) = answers.push(found) else {
+            return Err(Memory);
+        };
         at += step as usize;
     }
     Ok(answers)

@@ -67,14 +67,20 @@ fn numbers(alloc: Global, answers: &BlockAnswers) -> Result<Vec<u64>, Fail> {
 #[test]
 fn answers_after_two_updates(rt: HostRuntime) -> Result<(), Fail> {
     let alloc = rt.alloc();
-    let asks = asks_of(alloc, &[(0, 2, 2), (2, 0, 2), (1, 1, 2), (0, 1, 2), (0, 2, 2)])?;
+    let asks = asks_of(
+        alloc,
+        &[(0, 2, 2), (2, 0, 2), (1, 1, 2), (0, 1, 2), (0, 2, 2)],
+    )?;
     for readers in [1, 2, 7, 32] {
         let answers = run_two(&rt, alloc, &asks, readers, &OpenGate)?;
         let dists: Vec<u64> = answers.answers().iter().map(|a| a.dist).collect(alloc)?;
         assert_eq!(rt; dists.as_slice(), [7, NO_DISTANCE, 0, 4, 7].as_slice());
         assert_eq!(rt; numbers(alloc, &answers)?.as_slice(), [2; 5].as_slice());
         let ends: Vec<(u32, u32)> = answers.answers().iter().map(|a| (a.x, a.y)).collect(alloc)?;
-        assert_eq!(rt; ends.as_slice(), [(0, 2), (2, 0), (1, 1), (0, 1), (0, 2)].as_slice());
+        assert_eq!(rt;
+            ends.as_slice(),
+            [(0, 2), (2, 0), (1, 1), (0, 1), (0, 2)].as_slice()
+        );
         let walks = answers.answers().iter().map(|a| a.walk.items().len());
         let lengths: Vec<usize> = walks.collect(alloc)?;
         assert_eq!(rt; lengths.as_slice(), [3, 0, 1, 2, 3].as_slice());
@@ -88,7 +94,10 @@ fn answers_after_two_updates(rt: HostRuntime) -> Result<(), Fail> {
 #[test]
 fn answers_of_one_reader_do_not_fall(rt: HostRuntime) -> Result<(), Fail> {
     let alloc = rt.alloc();
-    let asks = asks_of(alloc, &[(0, 2, 1), (0, 2, 0), (0, 2, 2), (0, 2, 0), (0, 2, 0)])?;
+    let asks = asks_of(
+        alloc,
+        &[(0, 2, 1), (0, 2, 0), (0, 2, 2), (0, 2, 0), (0, 2, 0)],
+    )?;
     let answers = run_two(&rt, alloc, &asks, 1, &OpenGate)?;
     let numbers = numbers(alloc, &answers)?;
     assert_eq!(rt; numbers.len(), 5);
@@ -167,7 +176,8 @@ impl Gate for Meeting {
     fn pass(&self, _who: u32, what: u32) {
         if what == HELD {
             self.holds.fetch_add(1, SeqCst);
-            self.saw_second.store(comes_to(&self.publications, 2), SeqCst);
+            self.saw_second
+                .store(comes_to(&self.publications, 2), SeqCst);
         }
         if what == PUBLISHED && self.publications.fetch_add(1, SeqCst) == 0 {
             self.saw_hold.store(comes_to(&self.holds, 1), SeqCst);
