@@ -7,7 +7,6 @@ use Rattle.std.proofs.lemmas.Nat.{div-add-mod'}
 use Rattle.apsp_model.specs.declared.Memory.{Memory}
 use Rattle.graph_store.specs.Plan.{Plan}
 use Rattle.version_pool.specs.Pooled.{Pool, Reader, IsReaderOf}
-use Rattle.version_pool.specs.declared.word.Mark.{Mark}
 use Rattle.block_run.specs.declared.read.BlockReader.{BlockReader}
 use Rattle.block_run.specs.declared.asks.Ask.{Ask}
 use Rattle.block_run.specs.declared.answers.Answer.{Answer}
@@ -63,11 +62,11 @@ module _ {A B : Type 0} (f : A → B) where
 
 -- ---- the readers and their lists
 
-pub all_readers : (pool : Pool) (m : Mark) (readers : List Reader) (numbered : List BlockReader) → map (λ (b : BlockReader). b.reader) numbered ≡ readers → All (λ (r : Reader). IsReaderOf pool r × (r.mark ≡ m)) readers → All (λ (b : BlockReader). IsReaderOf pool b.reader) numbered
-all_readers pool m readers numbered moved all k d low =
+pub all_readers : (pool : Pool) (readers : List Reader) (numbered : List BlockReader) → map (λ (b : BlockReader). b.reader) numbered ≡ readers → All (IsReaderOf pool) readers → All (λ (b : BlockReader). IsReaderOf pool b.reader) numbered
+all_readers pool readers numbered moved all k d low =
     let size : length readers ≡ length numbered = ap length (sym moved) ∙ length-map numbered (λ (b : BlockReader). b.reader) in
-    let h = all k d.reader (omega (arith, size, low)) in
-    subst (λ (r : Reader). IsReaderOf pool r) (ap (λ (l : List Reader). get_or l k d.reader) (sym moved) ∙ map_get (λ (b : BlockReader). b.reader) numbered k d d.reader low) h.0
+    let h : IsReaderOf pool (get_or readers k d.reader) = all k d.reader (omega (arith, size, low)) in
+    subst (λ (r : Reader). IsReaderOf pool r) (ap (λ (l : List Reader). get_or l k d.reader) (sym moved) ∙ map_get (λ (b : BlockReader). b.reader) numbered k d d.reader low) h
 
 pub lists_of : (plan : Plan) (asks : List Ask) (step : ℕ) (readers : List BlockReader) (lists : List (Result (Vec Answer Global) Memory)) (all : List (Vec Answer Global)) → map Ok all ≡ lists → length lists ≡ length readers → AreNumbered readers
     → ((k : ℕ) (d : Result (Vec Answer Global) Memory) (e : BlockReader) → k < length readers → IfOk (get_or lists k d) (λ a. AnswersAll plan asks (get_or readers k e).who step a.items))

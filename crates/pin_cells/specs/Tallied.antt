@@ -1,5 +1,5 @@
 -- What contracts see of a tally of tries, and how a try changes it.
-use Rattle.std.specs.Prelude.{◌≡◌, ◌≢◌, ℕ, ◌+◌, ◌-◌, ◌^◌, ◌≤◌, ◌⊎◌, min, List, sum, slice_index, Option, Some}
+use Rattle.std.specs.Prelude.{◌≡◌, ◌≢◌, ℕ, ◌+◌, ◌-◌, ◌^◌, ◌⊎◌, min, List, sum, slice_index, Option, Some}
 
 -- the last ask that met a pin of another number
 pub record Ask : Type 0 where
@@ -17,9 +17,9 @@ pub record Tally : Type 0 where
 abbrev pub lost_of : Tally → ℕ
 lost_of t = min (sum t.lost) (2 ^ 64 - 1)
 
--- the count rose, or stands at its last value
+-- the count rose by one, or stands at its last value
 abbrev pub Rose : ℕ → ℕ → Type 0
-Rose before now = min (before + 1) (2 ^ 64 - 1) ≤ now
+Rose before now = now ≡ min (before + 1) (2 ^ 64 - 1)
 
 -- the turns that were lost at one slot rose, and nothing else changed
 pub record LosesAt (before now : Tally) (slot : ℕ) : Type 0 where

@@ -111,6 +111,7 @@ impl<'p> Cells<'p> {
     pub fn try_pin(&self, slot: u32, number: u64, tally: &mut Tally) -> Option<Pin<'_>>
         requires { slot < self.now.slots }
         ensures pinned { IfSome result (IsPinAt self.now slot number) }
+        ensures tally { IfSome result (λ _. tally.new ≡ tally.old) }
         ensures missed { IfNone result (MissesPin tally.old tally.new slot number) }
     {
         let pin = self.pin_any(slot, tally)?;

@@ -2,4 +2,5 @@ mod Sound
 mod Granting
 mod Totals
 mod Steps
-mod Vertices
+pub mod Versions
+pub mod Pairs

@@ -1,5 +1,5 @@
 -- What contracts see of a pool and of who uses it.
-use Rattle.std.specs.Prelude.{◌≡◌, ◌≢◌, ℕ, ◌+◌, ◌<◌, ◌≤◌, slice_index, Option, Some, None, refl}
+use Rattle.std.specs.Prelude.{◌≡◌, ◌≢◌, ℕ, ◌+◌, ◌<◌, ◌≤◌, ◌⊎◌, slice_index, Option, Some, None, refl}
 use Rattle.std.specs.Coded.{Coded, code_by, coded×, coded_ℕ}
 use Rattle.atomic_table.specs.Seated.{TableId, table_id_coded}
 use Rattle.graph_store.specs.Plan.{Plan, plan_code}
@@ -44,9 +44,12 @@ pub record IsPublisherOf (pool : Pool) (p : Publisher) : Type 0 where
   pub slots : p.slots ≡ pool.slots
   pub vertices : p.vertices ≡ pool.plan.start.vertices
 
-pub record IsReaderOf (pool : Pool) (r : Reader) : Type 0 where
-  pub pool_is : r.pool ≡ pool.id
-  pub slots : r.slots ≡ pool.slots
+pub record IsReaderAt (id : TableId) (count : ℕ) (r : Reader) : Type 0 where
+  pub pool_is : r.pool ≡ id
+  pub slots : r.slots ≡ count
+
+abbrev pub IsReaderOf : Pool → Reader → Type 0
+IsReaderOf pool r = IsReaderAt pool.id pool.slots r
 
 pub record IsNoteOf (pool : Pool) (n : Note) : Type 0 where
   pub pool_is : n.pool ≡ pool.id
@@ -58,10 +61,13 @@ pub record IsNext (slots : ℕ) (before m : Mark) : Type 0 where
   pub other : m.slot ≢ before.slot
   pub inside : m.slot < slots
 
--- a turn was lost at each slot from this one on, but the announced one
-abbrev pub LostFrom : Tally → Tally → ℕ → ℕ → ℕ → Type 0
-LostFrom before now slots announced from =
-    (k : ℕ) → from ≤ k → k < slots → k ≢ announced → Rose (slice_index before.lost k) (slice_index now.lost k)
+-- A turn was lost at each slot from this one on, but at the announced one, and nothing else of the
+-- tally changed.
+pub record LosesFrom (before now : Tally) (slots announced from : ℕ) : Type 0 where
+  pub rose : (k : ℕ) → from ≤ k → k < slots → k ≢ announced → Rose (slice_index before.lost k) (slice_index now.lost k)
+  pub others : (k : ℕ) → (k < from) ⊎ (k ≡ announced) → slice_index now.lost k ≡ slice_index before.lost k
+  pub other : now.other ≡ before.other
+  pub ask : now.ask ≡ before.ask
 
 -- the number of vertices of the version that a publisher keeps
 abbrev pub spare_vertices : Option Seen → ℕ

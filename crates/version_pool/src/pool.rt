@@ -3,7 +3,7 @@
 ghost use Rattle.std.specs.Prelude.{◌≡◌, ◌≤◌, [], ◌+◌, ◌^◌, All, IfOk, vec_len};
 ghost use Rattle.pin_cells.specs.Pinned.{IsOfPlan};
 ghost use Rattle.version_pool.specs.Marks.{mark, view};
-ghost use Rattle.version_pool.specs.Pooled.{IsPublisherOf, IsReaderOf};
+ghost use Rattle.version_pool.specs.Pooled.{IsPublisherOf, IsReaderOf, IsReaderAt};
 ghost use Rattle.version_pool.specs.declared.word.Role.TheVariants.{Publisher as publishing};
 
 use crate::publisher::Publisher;
@@ -66,9 +66,11 @@ impl<'p> Pool<'p> {
         requires lo { first.now.number ≡ plan.now.lo }
         ensures plan { IfOk result (λ p. p.pool.plan ≡ plan.entry.now) }
         ensures slots { IfOk result (λ p. p.pool.slots ≡ slots) }
-        ensures publisher { IfOk result (λ p. IsPublisherOf p.pool p.publisher × (p.publisher.mark ≡ mark plan.entry.now.lo 0)) }
+        ensures publisher { IfOk result (λ p. IsPublisherOf p.pool p.publisher) }
+        ensures announced { IfOk result (λ p. p.publisher.mark ≡ mark plan.entry.now.lo 0) }
         ensures readers { IfOk result (λ p. vec_len p.readers ≡ readers) }
-        ensures seen { IfOk result (λ p. All (λ r. IsReaderOf p.pool r × (r.mark ≡ mark plan.entry.now.lo 0)) p.readers.items) }
+        ensures own { IfOk result (λ p. All (IsReaderOf p.pool) p.readers.items) }
+        ensures seen { IfOk result (λ p. All (λ r. r.mark ≡ mark plan.entry.now.lo 0) p.readers.items) }
     {
         let lo = plan.lo();
         let cells = Cells::new(alloc, slots, plan, first)?;
@@ -107,7 +109,8 @@ fn readers_at(
     requires slot { mark.slot + 1 ≤ seat.old.me.0.slots }
     ensures same { (seat.new.table_id ≡ seat.old.table_id) × (seat.new.me ≡ seat.old.me) }
     ensures count { IfOk result (λ all. vec_len all ≡ count) }
-    ensures each { IfOk result (λ all. All (λ r. (r.pool ≡ word.now.table_id) × (r.slots ≡ seat.old.me.0.slots) × (r.mark ≡ mark)) all.items) }
+    ensures own { IfOk result (λ all. All (IsReaderAt word.now.table_id seat.old.me.0.slots) all.items) }
+    ensures seen { IfOk result (λ all. All (λ r. r.mark ≡ mark) all.items) }
 {
     let mut all = Vec::with_capacity(alloc, count as usize)?;
     for _ in 0..count {

@@ -2,7 +2,7 @@
 
 ghost use Rattle.std.specs.Prelude.{◌≡◌, ◌≢◌, ◌+◌, ◌<◌, IfOk, OnErr, IfSome, IfNone};
 ghost use Rattle.graph_store.specs.Plan.{IsVersionOf};
-ghost use Rattle.version_pool.specs.Pooled.{IsPublisherOf, IsNoteOf, IsNext, LostFrom};
+ghost use Rattle.version_pool.specs.Pooled.{IsPublisherOf, IsNoteOf, IsNext, LosesFrom};
 
 use crate::pool::Pool;
 use crate::word::{Mark, Place, announce, note};
@@ -90,9 +90,9 @@ impl Publisher {
         requires of_plan { IsVersionOf pool.now.plan (A.stamp from.now) (A.graph from.now) }
         ensures publisher { IsPublisherOf pool.now self.new }
         ensures announced { IfOk result (λ m. IsNext pool.now.slots self.old.mark m × (self.new.mark ≡ m)) }
-        ensures above { IfOk result (λ m. LostFrom tally.old tally.new pool.now.slots self.old.mark.slot (m.slot + 1)) }
+        ensures above { IfOk result (λ m. LosesFrom tally.old tally.new pool.now.slots self.old.mark.slot (m.slot + 1)) }
         ensures unchanged { OnErr result (self.new ≡ self.old) }
-        ensures all_held { OnErr result (LostFrom tally.old tally.new pool.now.slots self.old.mark.slot 0) }
+        ensures all_held { OnErr result (LosesFrom tally.old tally.new pool.now.slots self.old.mark.slot 0) }
     {
         let Some(mut spare) = self.spare.take() else {
             unreachable!()
@@ -142,8 +142,8 @@ fn claim_from_top<'a>(
 ) -> Option<Claimed<'a>>
     ensures slot { IfSome result (λ c. (c.slot < cells.entry.now.slots) × (c.slot ≢ announced)) }
     ensures plan { IfSome result (λ c. c.plan ≡ cells.entry.now.plan) }
-    ensures above { IfSome result (λ c. LostFrom tally.old tally.new cells.entry.now.slots announced (c.slot + 1)) }
-    ensures none { IfNone result (LostFrom tally.old tally.new cells.entry.now.slots announced 0) }
+    ensures above { IfSome result (λ c. LosesFrom tally.old tally.new cells.entry.now.slots announced (c.slot + 1)) }
+    ensures none { IfNone result (LosesFrom tally.old tally.new cells.entry.now.slots announced 0) }
 {
     let mut slot = cells.slots();
     while slot > 0 {

@@ -106,6 +106,7 @@ impl Reader {
         ensures later { self.old.mark.number ≤ self.new.mark.number }
         ensures number { IfOk result (λ h. h.number ≡ self.new.mark.number) }
         ensures of_plan { IfOk result (IsOfPlan pool.entry.now.plan) }
+        ensures tally { IfOk result (λ _. tally.new ≡ tally.old) }
         ensures missed { OnErr result (MissesPin tally.old tally.new self.new.mark.slot self.new.mark.number) }
     {
         let mark = look(&pool.board.shared, &mut self.seat);

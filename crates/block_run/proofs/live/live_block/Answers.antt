@@ -15,7 +15,7 @@ pub returns-in_err-readers-clause-memory : goal.returns-in_err-readers-clause-me
 returns-in_err-readers-clause-memory g c = on_err c.from_residual-in_err-readers.result (none_taken c.args.engine.now c.args.plan.now.stars)
 
 pub run-requires-clause-readers : goal.run-requires-clause-readers
-run-requires-clause-readers g c κs within = all_readers c.in_ok-pool.field-0.pool _ _ c.in_ok-readers.readers.items c.in_ok-readers.ensures.same c.in_ok-pool.ensures.seen
+run-requires-clause-readers g c κs within = all_readers c.in_ok-pool.field-0.pool _ c.in_ok-readers.readers.items c.in_ok-readers.ensures.same c.in_ok-pool.ensures.own
 
 pub returns-in_err-lists-clause-opening : goal.returns-in_err-lists-clause-opening
 returns-in_err-lists-clause-opening g c = cut_opening _ _ _ c.run.ensures.cut_off

@@ -1,7 +1,7 @@
 use Rattle.std.proofs.Common.{◌≡◌, ℕ, Some, sym, ◌∙◌, ap}
 use Rattle.version_face.specs.Seen.{Seen}
 use Rattle.version_pool.specs.Pooled.{Publisher, IsPublisherOf, spare_vertices}
-use Rattle.version_pool.proofs.Vertices.{vertices_of}
+use Rattle.version_pool.proofs.Versions.{vertices_of}
 use Rattle.version_pool.proofs.publisher.Publisher.publish.Goals as goal
 
 pub refill-requires-clause-same : goal.refill-requires-clause-same
