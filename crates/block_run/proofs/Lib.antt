@@ -1,0 +1,4 @@
+pub mod Advances
+pub mod Answering
+pub mod Found
+pub mod Ordered

@@ -1,0 +1,4 @@
+pub mod Answers
+pub mod Publishing
+pub mod Reading
+pub mod Run

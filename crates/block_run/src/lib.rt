@@ -1,0 +1,18 @@
+//! A block: an engine takes the updates of a plan, and readers answer questions from the versions
+//! that it publishes meanwhile.
+#![tactic(auto)]
+
+mod answers;
+mod asks;
+mod live;
+mod order;
+mod publish;
+mod read;
+
+pub use answers::{Answer, BlockAnswers, VertexList};
+pub use asks::{Ask, Asks};
+pub use live::live_block;
+pub use version_pool::MOST_READERS;
+
+#[cfg(test)]
+mod tests;
