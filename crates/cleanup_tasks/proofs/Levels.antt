@@ -1,8 +1,8 @@
 -- The walk from parents to children, level by level.
-use Rattle.std.specs.Prelude.{◌≡◌, ℕ, zero, suc, ◌+◌, ◌-◌, ◌<◌, ◌≤◌, ◌⊎◌, ◌↔◌, Bool, true, false, if◌then◌else◌, List, [], ◌∷◌, ◌++◌, length, take, map, Some, refl, Contains}
+use Rattle.std.specs.Prelude.{◌≡◌, ℕ, zero, suc, ◌+◌, ◌-◌, ◌<◌, ◌≤◌, ◌⊎◌, Bool, true, false, if◌then◌else◌, List, [], ◌∷◌, ◌++◌, length, take, map, Some, refl, Contains}
 use Rattle.std.specs.FinMap as fin
 use Rattle.std.proofs.Common.{get_or, sym, ◌∙◌, ap, subst, arith, inl, inr}
-use Rattle.std.proofs.lemmas.Bool.{cases_Bool, false≢true}
+use Rattle.std.proofs.lemmas.Bool.{false≢true}
 use Rattle.std.proofs.lemmas.List.{length-append, append_assoc, take_more}
 use Rattle.std.proofs.lemmas.List.Elements.{Contains-append_left, Contains-append_right, Contains-append_cases}
 use Rattle.apsp_model.specs.Walk.{IsOnceEach}
@@ -13,7 +13,7 @@ use Rattle.extension_lists.specs.Known.{sides_at}
 use Rattle.path_book.specs.Book.{Book, IsBook}
 use Rattle.path_book.proofs.Tables.{in_entries, to_map}
 use Rattle.cleanup_tasks.specs.Victims.{IsThrough, hops_at, IsRising, IsVictims}
-use Rattle.cleanup_tasks.specs.Walk.{starts_at, longer_of, lefts_of, rights_of, IsLonger}
+use Rattle.cleanup_tasks.specs.Walk.{starts_at, lefts_of, rights_of, IsLonger}
 use Rattle.cleanup_tasks.proofs.Parents.{Passes, IsChild, longer_exact, ChildFacts, child_facts, ParentOf, parent_of, one_parent, ends_apart, single_or_through, single_passes, some_hops, single_starts}
 
 -- ---- lists

@@ -1,4 +1,4 @@
-use Rattle.std.proofs.Common.{◌≡◌, ℕ, ◌++◌, take, ◌∙◌, ap}
+use Rattle.std.proofs.Common.{◌++◌, take, ◌∙◌, ap}
 use Rattle.std.proofs.lemmas.List.{append_assoc}
 use Rattle.apsp_model.specs.Walk.{IsOnceEach}
 use Rattle.extension_lists.specs.Known.{sides_at}

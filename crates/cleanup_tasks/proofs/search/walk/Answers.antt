@@ -1,9 +1,9 @@
-use Rattle.std.proofs.Common.{◌≡◌, ℕ, List, [], ◌∷◌, ◌++◌, Contains, sym, ◌∙◌, ap, subst}
+use Rattle.std.proofs.Common.{◌≡◌, ℕ, List, ◌++◌, Contains, sym, ◌∙◌, ap, subst}
 use Rattle.std.proofs.lemmas.List.Elements.{Contains-append_right}
 use Rattle.path_arena.specs.Arena.{vertex_of}
 use Rattle.cleanup_tasks.specs.Walk.{IsLonger}
 use Rattle.cleanup_tasks.specs.declared.search.Level.{Level}
-use Rattle.cleanup_tasks.proofs.Levels.{HasWalked, walk_starts, walk_goes_on, walk_falls, walk_ends, level_live}
+use Rattle.cleanup_tasks.proofs.Levels.{walk_starts, walk_goes_on, walk_falls, walk_ends, level_live}
 use Rattle.cleanup_tasks.proofs.search.walk.Goals as goal
 
 pub levels-init : goal.levels-init

@@ -1,11 +1,11 @@
 use Rattle.std.specs.Prelude.{◌++◌, [], ◌∷◌, Some, unwrap_or, option_to_list}
-use Rattle.std.proofs.Common.{◌≡◌, ◌≢◌, ◌<◌, List, ℕ, length, get_or, sym, ◌∙◌, ap, subst, arith}
+use Rattle.std.proofs.Common.{◌≡◌, ◌≢◌, List, ℕ, length, get_or, sym, ◌∙◌, ap, subst, arith}
 use Rattle.apsp_model.specs.Walk.{last}
 use Rattle.path_arena.proofs.Keys.{get_put, get_put_other}
 use Rattle.path_arena.specs.Arena.{Arena, path_at, IsLive, list_of, CanJoin, edge_path, no_path}
 use Rattle.path_arena.proofs.Paths.{live_added, live_still, live_apart, edges_can_join}
 use Rattle.path_book.specs.Book.{Book, IsNewList}
-use Rattle.path_book.proofs.Changes.{still_new, formed_pending, still_pending_marked, marked_now, still_marked, join_is_long}
+use Rattle.path_book.proofs.Changes.{still_new, formed_pending, still_pending_marked, marked_now, still_marked}
 use Rattle.cleanup_tasks.proofs.tests.join_new_edges.Goals as goal
 
 pub form_edge-requires-2-clause-new : goal.form_edge-requires-2-clause-new
