@@ -24,6 +24,7 @@ use Rattle.certificate.proofs.VersionLaws.{one_stated_of}
 use Rattle.apsp_service.specs.Certificate.{version_after}
 use Rattle.apsp_service.proofs.Checked.{checked_exists, one_checked}
 use Rattle.apsp_service.proofs.Replied.{replies_exist}
+use Rattle.apsp_service.proofs.Loads.{load_exists, one_load}
 
 -- ---- distances and walks
 
@@ -110,3 +111,6 @@ one_text (mode.Run workers smooth) bytes = record {
 one_text mode.Check bytes =
     let c = checked_exists bytes in
     record { text = c.0; status = c.1; session = c.2; only = λ other ended h. one_checked bytes other c.0 ended c.1 h c.2 }
+one_text (mode.Load n seed workers) bytes =
+    let c = load_exists n seed in
+    record { text = c.0; status = 0; session = (c.1, refl); only = λ other ended h. (one_load n seed other c.0 h.0 c.1, h.1) }

@@ -12,7 +12,7 @@ use Rattle.apsp_service.specs.declared.run.TheConstants.{MOST_INPUT}
 use Rattle.apsp_service.specs.Session.{Session, HasWholeReplies, HaveReplies, opening, after_lines, status_of}
 use Rattle.apsp_service.specs.Begun.{lines_from}
 use Rattle.apsp_service.specs.Running.{RunEnds, RanToEnd, StoppedAfter, StoppedAmong}
-use Rattle.apsp_service.specs.Outcome.{status_after, IsCheck, IsAnswered, IsStoppedEarly, IsCutShort, TookMoreThan, IsComplete, ReadToEnd, SaysRefused, IsOutcome}
+use Rattle.apsp_service.specs.Outcome.{status_after, IsCheck, IsLoad, IsAnswered, IsStoppedEarly, IsCutShort, TookMoreThan, IsComplete, ReadToEnd, SaysRefused, IsOutcome}
 use Rattle.apsp_service.specs.Ending.{IsShort, EndsAs}
 use Rattle.apsp_service.proofs.Checked.{one_checked}
 use Rattle.apsp_service.proofs.Lines.{whole_lines_is}
@@ -43,6 +43,13 @@ all_taken xs (Some ys) bytes taken last = taken ∙ ap (λ z. bytes ++ z) last �
 one_status : (m : Mode) (bytes t u : List ℕ) (a b : ℕ) → Session m bytes t a → Session m bytes u b → a ≡ b
 one_status (mode.Run workers smooth) bytes t u a b h k = h.1 ∙ sym k.1
 one_status mode.Check bytes t u a b h k = (one_checked bytes t u a b h k).1
+one_status (mode.Load n seed workers) bytes t u a b h k = h.1 ∙ sym k.1
+
+-- a mode reads its input, or its text does not depend on it
+reads_or_not : (m : Mode) → (IsLoad m → ⊥) ⊎ ((bytes input text : List ℕ) (status : ℕ) → Session m bytes text status → Session m input text status)
+reads_or_not (mode.Run workers smooth) = inl (λ load. load)
+reads_or_not mode.Check = inl (λ load. load)
+reads_or_not (mode.Load n seed workers) = inr (λ bytes input text status h. h)
 
 -- ---- the outcome of each end
 
@@ -74,14 +81,18 @@ module _ (m : Mode) (left left_now held held_now : Option (List ℕ)) (before no
     where
       at : (n : Mode) → IsCheck n → HasWholeReplies n (take MOST_INPUT s.bytes) s.text → Appends held held_now []
       at (mode.Run workers smooth) check replies = absurd check
+      at (mode.Load n seed workers) check replies = absurd check
       at mode.Check check replies = let F : List ℕ → Type 0 = λ t. Appends held held_now t in subst F replies s.given
 
   session_is : (status : ℕ) (a : IsAnswered m left left_now held held_now status) (input : List ℕ) → left ≡ Some input → (text : List ℕ) × Appends held held_now text × Session m input text status
-  session_is status a input told =
-      let F : Option (List ℕ) → Type 0 = λ o. Consumes o left_now a.bytes in
-      let same : input ≡ a.bytes = all_taken input left_now a.bytes (subst F told a.taken) a.last in
-      let G : List ℕ → Type 0 = λ z. Session m z a.text status in
-      (a.text, a.given, subst G (sym same) a.session)
+  session_is status a input told = elim (reads_or_not m) [
+    | inl reads ↦
+        let F : Option (List ℕ) → Type 0 = λ o. Consumes o left_now a.bytes in
+        let same : input ≡ a.bytes = all_taken input left_now a.bytes (subst F told a.taken) (a.last reads) in
+        let G : List ℕ → Type 0 = λ z. Session m z a.text status in
+        (a.text, a.given, subst G (sym same) a.session)
+    | inr free ↦ (a.text, a.given, free a.bytes input a.text status a.session)
+  ]
 
   ok_outcome : (refused : Bool) (a : IsAnswered m left left_now held held_now (ended refused)) → length a.bytes ≤ MOST_INPUT → IsOutcome m left left_now held held_now before now sink_before sink_now (ended refused)
   ok_outcome refused a few = record {
@@ -230,7 +241,7 @@ module _ (workers : ℕ) (smooth : Bool) (left left_now held held_now : Option (
   unfolding early_of
   run_ends (Ok refused) h =
       let r = h.1 in (
-        record { bytes = h.0; text = r.gave.0; taken = r.taken; last = r.last; given = r.gave.2; session = (r.gave.1, status_from refused (after_lines (opening smooth) (lines_of h.0)).refused r.refused) },
+        record { bytes = h.0; text = r.gave.0; taken = r.taken; last = λ _. r.last; unread = λ load. absurd load; given = r.gave.2; session = (r.gave.1, status_from refused (after_lines (opening smooth) (lines_of h.0)).refused r.refused) },
         r.few,
       )
   run_ends (Err stop.Source) h = (early_of h.0.0 h.0.1, h.0.2, h.1)

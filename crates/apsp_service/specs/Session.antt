@@ -18,6 +18,7 @@ use Rattle.apsp_service.specs.Stats.{IsStatsReply}
 use Rattle.apsp_service.specs.Age.{IsAgeReply}
 use Rattle.apsp_service.specs.Certificate.{IsCertReply}
 use Rattle.apsp_service.specs.Check.{IsChecked}
+use Rattle.apsp_service.specs.Load.{IsLoadReply}
 use Rattle.apsp_service.specs.Replies.{error_text}
 
 -- after some lines: the number of vertices, 0 before the line `vertices`; whether smoothing is on; the
@@ -101,6 +102,7 @@ abbrev pub Session : Mode → List ℕ → List ℕ → ℕ → Type 0
 Session (mode.Run workers smooth) bytes text status =
     HaveReplies (opening smooth) (lines_of bytes) text × (status ≡ status_of (after_lines (opening smooth) (lines_of bytes)))
 Session mode.Check bytes text status = IsChecked bytes text status
+Session (mode.Load n seed workers) bytes text status = IsLoadReply n seed text × (status ≡ 0)
 
 -- there is a text and a status that the session has for these bytes, and no other
 pub record HasOneText (mode : Mode) (bytes : List ℕ) : Type 0 where
@@ -109,7 +111,8 @@ pub record HasOneText (mode : Mode) (bytes : List ℕ) : Type 0 where
   pub session : Session mode bytes text status
   pub only : (other : List ℕ) (ended : ℕ) → Session mode bytes other ended → (other ≡ text) × (ended ≡ status)
 
--- the replies to whole lines alone; the mode that checks has none before the end of the input
+-- the replies to whole lines alone; the modes without lines have none before their end
 abbrev pub HasWholeReplies : Mode → List ℕ → List ℕ → Type 0
 HasWholeReplies (mode.Run workers smooth) bytes text = HaveReplies (opening smooth) (whole_lines bytes) text
 HasWholeReplies mode.Check bytes text = text ≡ []
+HasWholeReplies (mode.Load n seed workers) bytes text = text ≡ []

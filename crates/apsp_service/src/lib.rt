@@ -6,6 +6,7 @@ mod check;
 mod crew;
 mod entry;
 pub mod laws;
+mod load;
 mod network;
 mod replies;
 mod run;
