@@ -5,6 +5,8 @@
 #include <stdatomic.h>
 #include <stdio.h>
 #include <stdlib.h>
+#include <sys/syscall.h>
+#include <unistd.h>
 
 static atomic_long count;
 static long refused = -1;
@@ -17,7 +19,7 @@ __attribute__((constructor)) static void begin(void) {
     from_there = getenv("REFUSED_FROM_THERE") != NULL;
 }
 
-__attribute__((destructor)) static void end(void) {
+static void tell_count(void) {
     const char *name = getenv("REFUSED_COUNT");
     long made = atomic_load(&count);
     FILE *file = name ? fopen(name, "w") : NULL;
@@ -25,6 +27,16 @@ __attribute__((destructor)) static void end(void) {
         fprintf(file, "%ld\n", made);
         fclose(file);
     }
+}
+
+__attribute__((destructor)) static void end(void) {
+    tell_count();
+}
+
+/* A program with threads ends by this call, which runs no destructor. */
+void _exit(int status) {
+    tell_count();
+    for (;;) syscall(SYS_exit_group, status);
 }
 
 static int is_refused(void) {
