@@ -10,7 +10,7 @@ use Rattle.apsp_model.specs.Order.{path_cmp}
 use Rattle.apsp_model.specs.Walk.{first, last}
 use Rattle.apsp_model.proofs.Lists.{contains_nil}
 use Rattle.path_arena.specs.Arena.{Arena, Path, path_at, with_path, no_path, IsArena, IsLive, list_of, weight_of, id_cmp}
-use Rattle.pair_heaps.specs.Heaps.{Pair, Heaps, held_at, IsHeld, IsHeap, HasEnds, Fits, AgreeOnHeld, ChangesOnly, place_of}
+use Rattle.pair_heaps.specs.Heaps.{Pair, Heaps, held_at, IsHeld, IsHeap, HasEnds, Fits, AgreeOnHeld, ChangesOnly, place_of, pair_at}
 use Rattle.pair_heaps.specs.Rows.{heaps_of, IsHeaps}
 use Rattle.pair_heaps.proofs.Sifted.{heap_same}
 use Rattle.pair_heaps.proofs.Places.{same_pair, ends_inside, at_ends, IsWritten, written}
@@ -83,11 +83,6 @@ ends_in_rows h a id x y fits lawful live ends =
     let as_many : a.vertices ≡ h.vertices = fits.vertices in
     (omega (arith, inside.0), omega (arith, inside.1))
 
-pub written_by_ends : (n : ℕ) (items : List Pair) (h : Heaps) (a : Arena) (id x y k : ℕ) (v w : Pair) → heaps_of n items ≡ h → IsHeaps (heaps_of n items) → Fits h a → IsArena a → IsLive a id → HasEnds a id x y → k ≡ place_of h.vertices x y → v ≡ get_or items k v → IsWritten h (heaps_of n (set items k w)) x y v w
-written_by_ends n items h a id x y k v w is sound fits lawful live ends =
-    let rows : (x < h.vertices) × (y < h.vertices) = ends_in_rows h a id x y fits lawful live ends in
-    written n items h x y k v w is sound rows.0 rows.1
-
 -- the ids that were in the vector are live
 pub live_before : (h k : Heaps) (a : Arena) (x y : ℕ) (p q : Pair) → IsWritten h k x y p q → Fits h a → (id : ℕ) → Contains p.held id → IsLive a id
 live_before h k a x y p q w fits id c = fits.live x y id (subst (λ (r : Pair). Contains r.held id) (sym w.was) c)
@@ -103,6 +98,25 @@ pub held_before : (h k : Heaps) (a : Arena) (id x y : ℕ) (p q : Pair) → IsWr
 held_before h k a id x y p q w fits ends held =
     subst (λ (r : Pair). Contains r.held id) w.was
     (at_ends a id held.0 held.1 (λ u v. Contains (held_at h u v) id) (fits.ends held.0 held.1 id held.2) held.2 x y ends)
+
+-- the pair that stands at a place of the rows
+pub record IsPairOf (h : Heaps) (a : Arena) (x y : ℕ) (p : Pair) : Type 0 where
+  pub is : pair_at h x y ≡ p
+  pub live : (id : ℕ) → Contains p.held id → IsLive a id
+  pub arranged : IsHeap a p.held
+  pub held : (id : ℕ) → HasEnds a id x y → IsHeld h id → Contains p.held id
+  pub fresh : (id : ℕ) → (IsHeld h id → ⊥) → Contains p.held id → ⊥
+
+pub pair_of_place : (n : ℕ) (items : List Pair) (h : Heaps) (a : Arena) (x y k : ℕ) (v : Pair) → heaps_of n items ≡ h → IsHeaps (heaps_of n items) → Fits h a → x < h.vertices → y < h.vertices → k ≡ place_of h.vertices x y → v ≡ get_or items k v → IsPairOf h a x y v
+pair_of_place n items h a x y k v is sound fits x_in y_in same at =
+    let w : IsWritten h (heaps_of n (set items k v)) x y v v = written n items h x y k v v is sound x_in y_in same at in
+    record {
+      is = w.was;
+      live = live_before _ _ a x y v v w fits;
+      arranged = arranged_before _ _ a x y v v w fits;
+      held = λ id. held_before _ _ a id x y v v w fits;
+      fresh = λ id out c. out (x, y, subst (λ (p : Pair). Contains p.held id) (sym w.was) c);
+    }
 
 -- heaps that fit after one vector is replaced, where each id of it was there or is a live one of the pair
 pub fits_written : (h k : Heaps) (a : Arena) (id x y : ℕ) (p q : Pair) → IsWritten h k x y p q → Fits h a → IsLive a id → HasEnds a id x y → ((r : ℕ) → Contains q.held r → Contains p.held r ⊎ (r ≡ id)) → IsHeap a q.held → Fits k a

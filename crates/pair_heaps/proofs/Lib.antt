@@ -5,3 +5,4 @@ pub mod Orders
 pub mod Pairs
 pub mod Places
 pub mod Sifted
+pub mod Tells

@@ -259,7 +259,7 @@ pulled_live a xs ys x moved live q c = live q (Contains-permutation (x ∷ ys) x
 
 -- ---- the first entry
 
-above_first : (a : Arena) (xs : List ℕ) → IsHeap a xs → (n i : ℕ) → i ≤ n → i < length xs → IsUpon a xs i 0
+pub above_first : (a : Arena) (xs : List ℕ) → IsHeap a xs → (n i : ℕ) → i ≤ n → i < length xs → IsUpon a xs i 0
 above_first a xs heap zero i upto inside = λ h. let first : i ≡ 0 = omega arith in not_below_itself a (get_or xs 0 0) (subst (λ n. IsBelow a (get_or xs n 0) (get_or xs 0 0)) first h)
 above_first a xs heap (suc n) i upto inside = elim (cases_eq i 0) [
   | inl first ↦ λ h. not_below_itself a (get_or xs 0 0) (subst (λ n. IsBelow a (get_or xs n 0) (get_or xs 0 0)) first h)

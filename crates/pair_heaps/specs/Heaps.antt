@@ -1,5 +1,5 @@
 -- The ids that are held of each pair of vertices, and when they fit an arena.
-use Rattle.std.specs.Prelude.{◌≡◌, ◌≢◌, ℕ, ◌+◌, ◌-◌, ◌*◌, ◌/◌, ◌<◌, ◌≤◌, ◌⊎◌, ◌↔◌, List, [], if◌then◌else◌, nat_lt, Some, length, slice_index, slice_index_or, refl, Contains}
+use Rattle.std.specs.Prelude.{◌≡◌, ◌≢◌, ℕ, ◌+◌, ◌-◌, ◌*◌, ◌/◌, ◌<◌, ◌≤◌, ◌⊎◌, ◌↔◌, List, [], if◌then◌else◌, nat_lt, Some, length, slice_index, slice_index_or, refl, Contains, Bool, true, false}
 use Rattle.std.specs.Coded.{Coded, code_by, coded×, coded_ℕ, coded_list}
 use Rattle.std.specs.declared.cmp.Ordering.TheVariants.{Less}
 use Rattle.apsp_model.specs.Walk.{IsOnceEach, first, last}
@@ -101,3 +101,14 @@ pub record IsRemoved (old new : Heaps) (id x y : ℕ) : Type 0 where
 pub record IsLeastHeld (h : Heaps) (x y id : ℕ) : Type 0 where
   pub held : Contains (held_at h x y) id
   pub least : (a : Arena) → Fits h a → (q : ℕ) → Contains (held_at h x y) q → IsBelow a q id → ⊥
+
+-- held of the pair, and in this arena none of those is below it
+pub record IsLeastIn (a : Arena) (h : Heaps) (x y id : ℕ) : Type 0 where
+  pub held : Contains (held_at h x y) id
+  pub least : (q : ℕ) → Contains (held_at h x y) q → IsBelow a q id → ⊥
+
+-- whether an id of the pair is the least in the heaps that hold it. Where it is not, the others, which
+-- differ in this id alone, have the same least one
+pub record TellsLeast (a : Arena) (told : Bool) (with_id without_id : Heaps) (id x y : ℕ) : Type 0 where
+  pub yes : told ≡ true → IsLeastIn a with_id x y id
+  pub no : told ≡ false → (q : ℕ) × IsLeastIn a with_id x y q × IsLeastIn a without_id x y q

@@ -3,7 +3,7 @@
 ghost use Rattle.std.specs.Prelude.{◌≡◌, ℕ, ◌<◌, ◌↔◌, [], length, OnOk, OnErr, IfOk, IfSome, IsNone};
 ghost use Rattle.apsp_model.specs.Walk.{IsOnceEach};
 ghost use Rattle.path_arena.specs.Arena.{Arena as Paths, IsLive};
-ghost use Rattle.pair_heaps.specs.Heaps.{Fits, HasEnds, IsHeap, IsHeld, IsInserted, IsLeastHeld, IsRemoved, IsReserved, held_at, place_of, spare_at};
+ghost use Rattle.pair_heaps.specs.Heaps.{Fits, HasEnds, IsHeap, IsHeld, IsInserted, IsLeastHeld, IsRemoved, IsReserved, TellsLeast, held_at, place_of, spare_at};
 
 use crate::pair::PairHeap;
 use apsp_model::Memory;
@@ -77,10 +77,38 @@ impl Heaps {
         ensures full { OnErr result ((x y : ℕ) → HasEnds arena.now id x y → spare_at self.old x y ≡ 0) }
         ensures fits { Fits self.new arena.now }
     {
-        let place = self.place(arena.first(id), arena.last(id));
+        let (x, y) = (arena.first(id), arena.last(id));
+        let _ = self.insert_between(arena, id, x, y)?;
+        Ok(())
+    }
+
+    /// Adds an id to its pair, from x to y, and says whether it is the least of the pair now. Memory
+    /// comes only where the pair has no room left, and changes nothing.
+    #[inline(always)]
+    pub fn insert_between(
+        &mut self,
+        arena: &Arena,
+        id: PathId,
+        x: u32,
+        y: u32,
+    ) -> Result<bool, Memory>
+        requires from { x < self.old.vertices }
+        requires to { y < self.old.vertices }
+        requires fits { Fits self.old arena.now }
+        requires live { IsLive arena.now id }
+        requires ends { HasEnds arena.now id x y }
+        requires fresh { IsHeld self.old id → ⊥ }
+        ensures ok { OnOk result (IsInserted self.old self.new id x y) }
+        ensures least { IfOk result (λ told. TellsLeast arena.now told self.new self.old id x y) }
+        ensures err { OnErr result (self.new ≡ self.old) }
+        ensures full { OnErr result (spare_at self.old x y ≡ 0) }
+        ensures fits { Fits self.new arena.now }
+    {
+        let place = self.place(x, y);
         let alloc = *self.pairs.allocator();
         let pair = &mut self.pairs[place];
-        pair.insert(alloc, arena, id)
+        pair.insert(alloc, arena, id)?;
+        Ok(pair.is_first(id))
     }
 
     /// Takes a held id out of its pair.
@@ -90,9 +118,27 @@ impl Heaps {
         ensures removed { (x y : ℕ) → HasEnds arena.now id x y → IsRemoved self.old self.new id x y }
         ensures fits { Fits self.new arena.now }
     {
-        let place = self.place(arena.first(id), arena.last(id));
+        let (x, y) = (arena.first(id), arena.last(id));
+        let _ = self.remove_between(arena, id, x, y);
+    }
+
+    /// Takes a held id out of its pair, from x to y, and says whether it was the least of the pair.
+    #[inline(always)]
+    pub fn remove_between(&mut self, arena: &Arena, id: PathId, x: u32, y: u32) -> bool
+        requires from { x < self.old.vertices }
+        requires to { y < self.old.vertices }
+        requires fits { Fits self.old arena.now }
+        requires ends { HasEnds arena.now id x y }
+        requires held { IsHeld self.old id }
+        ensures removed { IsRemoved self.old self.new id x y }
+        ensures least { TellsLeast arena.now result self.old self.new id x y }
+        ensures fits { Fits self.new arena.now }
+    {
+        let place = self.place(x, y);
         let pair = &mut self.pairs[place];
+        let was = pair.is_first(id);
         pair.take_out(arena, id);
+        was
     }
 
     /// The held id of the pair that none of them is below.

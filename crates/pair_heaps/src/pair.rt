@@ -1,7 +1,7 @@
 //! The ids of one pair.
 
 ghost use Rattle.std.specs.List.Sorted.{IsPermutation};
-ghost use Rattle.std.specs.Prelude.{◌≡◌, ℕ, ◌+◌, ◌-◌, ◌<◌, ◌≤◌, ◌⊎◌, [], ◌∷◌, ◌++◌, take, Contains, OnOk, OnErr, IfOk, IsTrue, ◌↔◌};
+ghost use Rattle.std.specs.Prelude.{◌≡◌, ℕ, ◌+◌, ◌-◌, ◌<◌, ◌≤◌, ◌⊎◌, ◌==◌, [], ◌∷◌, ◌++◌, slice_index, take, Contains, OnOk, OnErr, IfOk, IsTrue, ◌↔◌};
 ghost use Rattle.apsp_model.specs.Walk.{IsOnceEach};
 ghost use Rattle.path_arena.specs.Arena.{IsLive};
 ghost use Rattle.pair_heaps.specs.Heaps.{IsHeap, IsWith, IsWithout, no_pair};
@@ -65,6 +65,15 @@ impl PairHeap {
             Ids::InBlock(len, block) => &block[..*len as usize],
             Ids::Grown(tall) => tall.ids(),
         }
+    }
+
+    /// Whether the first entry is this one, which is held.
+    #[inline(always)]
+    pub(crate) fn is_first(&self, id: PathId) -> bool
+        requires { Contains self.now.held id }
+        ensures { result ≡ (slice_index self.now.held 0 == id) }
+    {
+        self.held()[0] == id
     }
 
     /// Makes room for one more id. Memory changes nothing.
