@@ -113,6 +113,10 @@ IsPendingLeast b x y id = IsLeastKept b x y id × (IsMarked b id → ⊥)
 abbrev pub HasNoPendingLeast : Book → ℕ → ℕ → Type 0
 HasNoPendingLeast b x y = KeepsNone b x y ⊎ ((id : ℕ) × IsLeastKept b x y id × IsMarked b id)
 
+-- no pair of vertices has a least kept path that is not historical
+abbrev pub HasNonePending : Book → Type 0
+HasNonePending b = (x y : ℕ) → x < b.arena.vertices → y < b.arena.vertices → HasNoPendingLeast b x y
+
 -- these are the least kept paths of the pairs of vertices below n that are not historical, each once
 pub record ArePendingLeasts (b : Book) (n : ℕ) (ids : List ℕ) : Type 0 where
   pub pairs : (x y : ℕ) → x < n → y < n → HasNoPendingLeast b x y ⊎ ((id : ℕ) × IsPendingLeast b x y id × Contains ids id)

@@ -31,10 +31,22 @@ pub record IsNoted (old new : Dirty) (x y : ℕ) : Type 0 where
   pub here : is_dirty new x y ≡ true
   pub still : (u v : ℕ) → is_dirty new u v ≡ false → is_dirty old u v ≡ false
 
+-- each of the pairs is one of vertices below n
+abbrev pub AreInside : ℕ → List (ℕ × ℕ) → Type 0
+AreInside n pairs = (p : ℕ × ℕ) → Contains pairs p → (p.0 < n) × (p.1 < n)
+
+-- each pair whose flag is up is one of the pairs
+abbrev pub AreAllOf : Dirty → List (ℕ × ℕ) → Type 0
+AreAllOf d pairs = (x y : ℕ) → x < d.vertices → y < d.vertices → flag_at d x y ≡ true → Contains pairs (x, y)
+
+-- the same pairs are dirty
+abbrev pub AreSameDirty : Dirty → Dirty → Type 0
+AreSameDirty old new = (x y : ℕ) → x < old.vertices → y < old.vertices → is_dirty new x y ≡ is_dirty old x y
+
 -- these pairs are those whose flags are up, each once
 pub record IsListed (n : ℕ) (flags : List Bool) (pairs : List (ℕ × ℕ)) : Type 0 where
   pub places : length flags ≡ n * n
-  pub inside : (p : ℕ × ℕ) → Contains pairs p → (p.0 < n) × (p.1 < n)
+  pub inside : AreInside n pairs
   pub up : (p : ℕ × ℕ) → Contains pairs p → slice_index_or flags (place_of n p.0 p.1) true ≡ true
   pub all : (x y : ℕ) → x < n → y < n → slice_index_or flags (place_of n x y) true ≡ true → Contains pairs (x, y)
   pub once : IsOnceEach pairs

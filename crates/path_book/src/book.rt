@@ -6,7 +6,7 @@ ghost use Rattle.apsp_model.specs.Walk.{IsOnceEach, first, last};
 ghost use Rattle.apsp_model.specs.Paths.{IsKeptIn, HasBirthIn};
 ghost use Rattle.extension_lists.specs.Known.{IsStarred};
 ghost use Rattle.path_arena.specs.Arena.{path_at, path_of, list_of, IsLive, HasAnEdge, edge_path, joined_path, IsPartOfNone, CanJoin};
-ghost use Rattle.path_book.specs.Book.{IsBook, IsMarked, IsOpening, kept_paths, IsNewList, with_kept, with_mark, left_id, right_id, IsForgotten, IsLeastKept, KeepsNone, IsPendingLeast, HasNoPendingLeast, TellsLeastKept, ArePendingLeasts, PathsCount, HistoricalCount};
+ghost use Rattle.path_book.specs.Book.{IsBook, IsMarked, IsOpening, kept_paths, IsNewList, with_kept, with_mark, left_id, right_id, IsForgotten, IsLeastKept, KeepsNone, IsPendingLeast, HasNoPendingLeast, HasNonePending, TellsLeastKept, ArePendingLeasts, PathsCount, HistoricalCount};
 
 use crate::admit::{NewPath, admit, admit_known, enter_vertices};
 use crate::dirty::Dirty;
@@ -60,6 +60,7 @@ impl Model for Book {
 }
 
 impl Book {
+    ghost use Rattle.path_book.specs.Dirty.{AreInside};
     ghost use Rattle.path_book.specs.Layout.{AreHeadsOf, IsExtensionTo};
 
     /// Keeps the single vertices.
@@ -230,7 +231,7 @@ impl Book {
 
     /// Notes that of each pair the least kept path, if there is one, is historical.
     pub fn note_clean(&mut self)
-        requires clean { (x y : ℕ) → x < self.old.arena.vertices → y < self.old.arena.vertices → HasNoPendingLeast self.old x y }
+        requires clean { HasNonePending self.old }
         ensures same { self.new ≡ self.old }
         ensures lawful { IsBook self.new }
     {
@@ -239,7 +240,7 @@ impl Book {
 
     /// Lists the least kept paths of these pairs that are not historical.
     fn push_heads(&self, pairs: &[(u32, u32)], heads: &mut Vec<PathId>) -> Result<(), Memory>
-        requires inside { (p : ℕ × ℕ) → Contains pairs.now p → (p.0 < self.now.arena.vertices) × (p.1 < self.now.arena.vertices) }
+        requires inside { AreInside self.now.arena.vertices pairs.now }
         requires once { IsOnceEach pairs.now }
         requires none { heads.old.items ≡ [] }
         ensures heads { OnOk result (AreHeadsOf self.now pairs.now heads.new.items) }

@@ -1,9 +1,9 @@
 //! The dirty pairs.
 
-ghost use Rattle.std.specs.Prelude.{◌≡◌, ℕ, ◌<◌, false, true, length, replicate, IfOk, OnOk, OnErr, Contains};
+ghost use Rattle.std.specs.Prelude.{◌≡◌, ℕ, ◌<◌, false, true, length, replicate, IfOk, OnOk, OnErr};
 ghost use Rattle.apsp_model.specs.Walk.{IsOnceEach};
 ghost use Rattle.pair_heaps.specs.Heaps.{place_of};
-ghost use Rattle.path_book.specs.Dirty.{IsNoted, flag_at, is_dirty, with_all, with_flag};
+ghost use Rattle.path_book.specs.Dirty.{AreAllOf, AreInside, AreSameDirty, IsNoted, flag_at, is_dirty, with_all, with_flag};
 
 use apsp_model::Memory;
 use std::alloc::{AllocError, Global};
@@ -87,7 +87,7 @@ impl Dirty {
     /// Lists the dirty pairs one by one, also where all are.
     pub(crate) fn list(&mut self) -> Result<(), Memory>
         ensures vertices { self.new.vertices ≡ self.old.vertices }
-        ensures same { (x y : ℕ) → x < self.old.vertices → y < self.old.vertices → is_dirty self.new x y ≡ is_dirty self.old x y }
+        ensures same { AreSameDirty self.old self.new }
         ensures listed { OnOk result (self.new.all ≡ false) }
     {
         if !self.all {
@@ -131,9 +131,9 @@ impl Dirty {
 
     /// The pairs whose flags are up.
     pub(crate) fn pairs(&self) -> &[(u32, u32)]
-        ensures inside { (p : ℕ × ℕ) → Contains result.now p → (p.0 < self.now.vertices) × (p.1 < self.now.vertices) }
+        ensures inside { AreInside self.now.vertices result.now }
         ensures once { IsOnceEach result.now }
-        ensures all { (x y : ℕ) → x < self.now.vertices → y < self.now.vertices → flag_at self.now x y ≡ true → Contains result.now (x, y) }
+        ensures all { AreAllOf self.now result.now }
     {
         &self.pairs
     }
