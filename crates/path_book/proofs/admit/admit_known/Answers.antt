@@ -3,11 +3,11 @@ use Rattle.pair_heaps.specs.Heaps.{TellsLeast}
 use Rattle.path_book.proofs.Admitting.{admitted, told_least, known_inside}
 use Rattle.path_book.proofs.admit.admit_known.Goals as goal
 
-pub insert_between-requires-clause-from : goal.insert_between-requires-clause-from
-insert_between-requires-clause-from c = (known_inside c.args.arena.now c.args.heaps.now c.args.path c.requires.lawful c.requires.edge c.requires.room c.requires.known).0
+pub insert_between-told-requires-clause-from : goal.insert_between-told-requires-clause-from
+insert_between-told-requires-clause-from c = (known_inside c.args.arena.now c.args.heaps.now c.args.path c.requires.lawful c.requires.edge c.requires.room c.requires.known).0
 
-pub insert_between-requires-clause-to : goal.insert_between-requires-clause-to
-insert_between-requires-clause-to c = (known_inside c.args.arena.now c.args.heaps.now c.args.path c.requires.lawful c.requires.edge c.requires.room c.requires.known).1
+pub insert_between-told-requires-clause-to : goal.insert_between-told-requires-clause-to
+insert_between-told-requires-clause-to c = (known_inside c.args.arena.now c.args.heaps.now c.args.path c.requires.lawful c.requires.edge c.requires.room c.requires.known).1
 
 pub returns-clause-admitted : goal.returns-clause-admitted
 returns-clause-admitted c =
