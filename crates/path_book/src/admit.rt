@@ -57,6 +57,7 @@ pub(crate) fn admit(
 }
 
 /// The same for a path whose parts and ends are known. Says whether it is the least of its pair.
+#[inline(always)]
 pub(crate) fn admit_known(
     arena: &mut Arena,
     heaps: &mut Heaps,

@@ -28,14 +28,14 @@ invariant_of-self-in_err-id c = record {
 pub admit_known-requires : goal.admit_known-requires
 admit_known-requires c =
     let new : IsNew (view_of c.self.inside) c.in_ok-id.id (joined_path c.self.inside.arena c.args.l c.args.r c.args.birth) =
-        new_join (view_of c.self.inside) c.in_ok-id.id c.args.l c.args.r c.args.birth
-        (subst (λ (b : Book). IsMarked b c.args.l) (sym c.self.view_is) c.requires.left)
-        (subst (λ (b : Book). IsMarked b c.args.r) (sym c.self.view_is) c.requires.right)
-        c.in_ok-id.ensures.fresh (subst (λ (b : Book). IsNewList b (joined_path b.arena c.args.l c.args.r c.args.birth).list) (sym c.self.view_is) c.requires.new)
-        (subst IsArena c.in_ok-id.ensures.added c.in_ok-id.ensures.lawful) in
+    new_join (view_of c.self.inside) c.in_ok-id.id c.args.l c.args.r c.args.birth
+    (subst (λ (b : Book). IsMarked b c.args.l) (sym c.self.view_is) c.requires.left)
+    (subst (λ (b : Book). IsMarked b c.args.r) (sym c.self.view_is) c.requires.right)
+    c.in_ok-id.ensures.fresh (subst (λ (b : Book). IsNewList b (joined_path b.arena c.args.l c.args.r c.args.birth).list) (sym c.self.view_is) c.requires.new)
+    (subst IsArena c.in_ok-id.ensures.added c.in_ok-id.ensures.lawful) in
     let ends = join_ends c.self.inside.arena c.self.inside.heaps c.args.l c.args.r c.args.birth _ _ c.self.invariant.stored.book.arena c.self.invariant.stored.heaps.fits (subst (λ (b : Book). CanJoin b.arena c.args.l c.args.r) (sym c.self.view_is) c.requires.join) (subst (λ (b : Book). first (list_of b.arena c.args.l) ≡ Some c.args.from) (sym c.self.view_is) c.requires.from) (subst (λ (b : Book). last (list_of b.arena c.args.r) ≡ Some c.args.to) (sym c.self.view_is) c.requires.to) in
     let a : AsksMet (view_of c.self.inside) c.join.new.self c.reserve.new.self c.in_ok-id.id =
-        asks_met (view_of c.self.inside) c.in_ok-id.id _ c.self.inside.heaps c.reserve.new.self c.args.from c.args.to _ _ c.join.new.self c.self.invariant.stored new c.in_ok-id.ensures.added (c.reserve.ensures.fits c.self.inside.arena).0 c.in_ok-reserve.ensures.ok ends.begins ends.finishes in
+    asks_met (view_of c.self.inside) c.in_ok-id.id _ c.self.inside.heaps c.reserve.new.self c.args.from c.args.to _ _ c.join.new.self c.self.invariant.stored new c.in_ok-id.ensures.added (c.reserve.ensures.fits c.self.inside.arena).0 c.in_ok-reserve.ensures.ok ends.begins ends.finishes in
     record {
       lawful = a.lawful;
       edge = a.edge;
@@ -101,12 +101,12 @@ returns-clause-lawful c = (formed c).stored.book
 pub returns-clause-least : goal.returns-clause-least
 returns-clause-least c =
     let new : IsNew (view_of c.self.inside) c.in_ok-id.id (joined_path c.self.inside.arena c.args.l c.args.r c.args.birth) =
-        new_join (view_of c.self.inside) c.in_ok-id.id c.args.l c.args.r c.args.birth
-        (subst (λ (b : Book). IsMarked b c.args.l) (sym c.self.view_is) c.requires.left)
-        (subst (λ (b : Book). IsMarked b c.args.r) (sym c.self.view_is) c.requires.right)
-        c.in_ok-id.ensures.fresh (subst (λ (b : Book). IsNewList b (joined_path b.arena c.args.l c.args.r c.args.birth).list) (sym c.self.view_is) c.requires.new)
-        (subst IsArena c.in_ok-id.ensures.added c.in_ok-id.ensures.lawful) in
+    new_join (view_of c.self.inside) c.in_ok-id.id c.args.l c.args.r c.args.birth
+    (subst (λ (b : Book). IsMarked b c.args.l) (sym c.self.view_is) c.requires.left)
+    (subst (λ (b : Book). IsMarked b c.args.r) (sym c.self.view_is) c.requires.right)
+    c.in_ok-id.ensures.fresh (subst (λ (b : Book). IsNewList b (joined_path b.arena c.args.l c.args.r c.args.birth).list) (sym c.self.view_is) c.requires.new)
+    (subst IsArena c.in_ok-id.ensures.added c.in_ok-id.ensures.lawful) in
     let ends = join_ends c.self.inside.arena c.self.inside.heaps c.args.l c.args.r c.args.birth _ _ c.self.invariant.stored.book.arena c.self.invariant.stored.heaps.fits (subst (λ (b : Book). CanJoin b.arena c.args.l c.args.r) (sym c.self.view_is) c.requires.join) (subst (λ (b : Book). first (list_of b.arena c.args.l) ≡ Some c.args.from) (sym c.self.view_is) c.requires.from) (subst (λ (b : Book). last (list_of b.arena c.args.r) ≡ Some c.args.to) (sym c.self.view_is) c.requires.to) in
     let a : AsksMet (view_of c.self.inside) c.join.new.self c.reserve.new.self c.in_ok-id.id =
-        asks_met (view_of c.self.inside) c.in_ok-id.id _ c.self.inside.heaps c.reserve.new.self c.args.from c.args.to _ _ c.join.new.self c.self.invariant.stored new c.in_ok-id.ensures.added (c.reserve.ensures.fits c.self.inside.arena).0 c.in_ok-reserve.ensures.ok ends.begins ends.finishes in
+    asks_met (view_of c.self.inside) c.in_ok-id.id _ c.self.inside.heaps c.reserve.new.self c.args.from c.args.to _ _ c.join.new.self c.self.invariant.stored new c.in_ok-id.ensures.added (c.reserve.ensures.fits c.self.inside.arena).0 c.in_ok-reserve.ensures.ok ends.begins ends.finishes in
     tells_kept _ c.admit_known.new.heaps c.reserve.new.self _ _ c.args.from c.args.to c.in_ok-id.id c.in_ok-is_least.is_least (formed c).stored c.in_ok-is_least.ensures.least a.new
