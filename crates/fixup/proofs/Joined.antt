@@ -1,11 +1,11 @@
 -- What a call that forms a join leaves.
-use Rattle.std.specs.Prelude.{◌≡◌, ◌≢◌, ℕ, ◌<◌, List, [], ◌∷◌, ◌++◌, Option, Some, None, is_some, unwrap_or, option_to_list, MatchOption, refl, Contains}
+use Rattle.std.specs.Prelude.{◌≡◌, ◌≢◌, ℕ, ◌<◌, Bool, true, false, List, [], ◌∷◌, ◌++◌, Some, None, is_some, unwrap_or, option_to_list, refl, Contains}
 use Rattle.std.proofs.Common.{sym, ◌∙◌, ap, subst, inl, inr}
 use Rattle.apsp_model.specs.Walk.{first, last}
 use Rattle.apsp_model.proofs.Lists.{first-append, last-push}
 use Rattle.path_arena.specs.Arena.{Arena, path_at, list_of, IsLive, IsArena, no_path, joined_path}
 use Rattle.path_arena.proofs.Paths.{live_path, path_of_at, live_apart}
-use Rattle.path_book.specs.Book.{Book, with_kept, IsLeastKept, KeepsNone}
+use Rattle.path_book.specs.Book.{Book, with_kept, TellsLeastKept}
 use Rattle.pair_heaps.specs.Heaps.{HasEnds}
 use Rattle.weight_classes.specs.Classes.{Classes, Rank, Fits, IsHeld, IsPushed}
 use Rattle.fixup_math.proofs.Counting.{head_in, tail_in}
@@ -59,10 +59,8 @@ module _ (b : Book) (l r birth id : ℕ) (after : Book) (fresh : path_at b.arena
     formed : (c later : Classes) → IsQueuedIfLeast after x y id c later → IsFormed b c l r birth after later
     formed c later queue = record { id = id; from = x; to = y; fresh = fresh; kept = kept; ends = ends_now; queued = queue }
 
-    pub joined_held : (c later : Classes) → (first (list_of b.arena l) ≢ last (list_of b.arena r)) → (o : Option ℕ) → MatchOption o (KeepsNone after x y) (IsLeastKept after x y) → o ≡ Some id → IsPushed c later after.arena id → IsJoined b c l r birth after later
-    joined_held c later apart None m e pushed = cc
-    joined_held c later apart (Some q) m e pushed = inr (apart, formed c later (inl (subst (IsLeastKept after x y) (let same : q ≡ id = cc in same) m, pushed)))
+    pub joined_held : (c later : Classes) → (first (list_of b.arena l) ≢ last (list_of b.arena r)) → (told : Bool) → TellsLeastKept after x y id told → told ≡ true → IsPushed c later after.arena id → IsJoined b c l r birth after later
+    joined_held c later apart told tells e pushed = inr (apart, formed c later (inl (tells.yes e, pushed)))
 
-    pub joined_left : (c : Classes) → (first (list_of b.arena l) ≢ last (list_of b.arena r)) → (o : Option ℕ) → MatchOption o (KeepsNone after x y) (IsLeastKept after x y) → (o ≡ Some id → ⊥) → IsJoined b c l r birth after c
-    joined_left c apart None m other = absurd (m id live_now ends_now)
-    joined_left c apart (Some q) m other = inr (apart, formed c c (inr (q, (λ same. other (ap Some same)), m, refl)))
+    pub joined_left : (c : Classes) → (first (list_of b.arena l) ≢ last (list_of b.arena r)) → (told : Bool) → TellsLeastKept after x y id told → told ≡ false → IsJoined b c l r birth after c
+    joined_left c apart told tells e = let q = tells.no e in inr (apart, formed c c (inr (q.0, q.1, q.2, refl)))

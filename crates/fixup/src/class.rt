@@ -96,9 +96,9 @@ fn join(
     if from == to {
         return Ok(());
     }
-    let id = book.form_join(l, r, birth)?;
-    if book.least(from, to) == Some(id) {
-        classes.push(book.arena(), id)?;
+    let formed = book.form_join_between(l, r, from, to, birth)?;
+    if formed.is_least {
+        classes.push(book.arena(), formed.id)?;
     }
     Ok(())
 }

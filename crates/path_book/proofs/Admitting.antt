@@ -1,14 +1,16 @@
 -- A new path stands in the heap of its pair and in the lists of its parts.
-use Rattle.std.specs.Prelude.{◌≡◌, ℕ, ◌≤◌, ◌<◌, false, Some, Result, Ok, Err, OnOk, OnErr, length}
-use Rattle.std.specs.Result.{is_err}
-use Rattle.std.proofs.Common.{sym, ◌∙◌, ap, arith}
+use Rattle.std.specs.Prelude.{◌≡◌, ℕ, ◌≤◌, ◌<◌, Bool, false, Some, IfOk, Result, Ok, Err, OnOk, OnErr, length}
+use Rattle.std.specs.Result.{is_err, result_unwrap_or}
+use Rattle.std.proofs.Common.{sym, ◌∙◌, ap, subst, arith}
 use Rattle.apsp_model.proofs.Walks.{first_is, last_is}
 use Rattle.path_arena.specs.Arena.{Arena, list_of, left_of, right_of, HasAnEdge, IsArena}
-use Rattle.path_arena.proofs.Paths.{Parted, parted}
-use Rattle.pair_heaps.specs.Heaps.{Heaps, IsInserted, Fits, HasEnds, spare_at}
+use Rattle.path_arena.proofs.Paths.{Parted, parted, live_from_edge}
+use Rattle.pair_heaps.specs.Heaps.{Heaps, IsInserted, Fits, HasEnds, spare_at, TellsLeast}
+use Rattle.pair_heaps.proofs.Fits.{ends_in_rows}
 use Rattle.extension_lists.specs.Known.{Known}
 use Rattle.path_book.specs.Book.{entered}
-use Rattle.path_book.specs.Admitted.{HasRoom, IsAdmitted}
+use Rattle.path_book.specs.Admitted.{HasRoom, IsAdmitted, IsKnownPath}
+use Rattle.path_book.specs.declared.admit.NewPath.{NewPath}
 
 -- the ends of a live path with an edge
 pub ends_of : (a : Arena) (id : ℕ) → IsArena a → HasAnEdge a id → (x : ℕ) × (y : ℕ) × HasEnds a id x y
@@ -21,17 +23,34 @@ ends_of a id h edge =
     let y = last_is (list_of a id) some in
     (x.0, y.0, (x.1, y.1))
 
-pub admitted : {T E F : Type 0} (a : Arena) (old new : Heaps) (lists later : Known) (id l r : ℕ) → IsArena a → HasAnEdge a id → HasRoom a old id → left_of a id ≡ Some l → right_of a id ≡ Some r → (e : Result T E) → is_err e ≡ false → OnOk e (later ≡ entered lists id l r) → (o : Result T F) → OnOk o ((x y : ℕ) → HasEnds a id x y → IsInserted old new id x y) → OnErr o ((x y : ℕ) → HasEnds a id x y → spare_at old x y ≡ 0) → Fits new a → IsAdmitted a old new lists later id
-admitted a old new lists later id l r h edge room left right (Err e) fine done o ok full fits = cc
-admitted a old new lists later id l r h edge room left right (Ok t) fine done (Err f) ok full fits =
-    let ends = ends_of a id h edge in
-    absurd (let some : 1 ≤ spare_at old ends.0 ends.1 = room.spare ends.0 ends.1 ends.2 in let none : spare_at old ends.0 ends.1 ≡ 0 = full ends.0 ends.1 ends.2 in omega arith)
-admitted a old new lists later id l r h edge room left right (Ok t) fine done (Ok u) ok full fits = record {
+same_ends : (a : Arena) (id x y u v : ℕ) → HasEnds a id x y → HasEnds a id u v → (u ≡ x) × (v ≡ y)
+same_ends a id x y u v e f = (
+  let two : Some u ≡ Some x = sym f.0 ∙ e.0 in cc,
+  let two : Some v ≡ Some y = sym f.1 ∙ e.1 in cc,
+)
+
+pub admitted : {F E : Type 0} (a : Arena) (old new : Heaps) (lists later : Known) (path : NewPath) → IsArena a → HasAnEdge a path.id → HasRoom a old path.id → IsKnownPath a path → (e : Result F E) → is_err e ≡ false → OnOk e (later ≡ entered lists path.id path.left path.right) → (o : Result Bool E) → OnOk o (IsInserted old new path.id path.from path.to) → OnErr o (spare_at old path.from path.to ≡ 0) → Fits new a → IsAdmitted a old new lists later path.id
+admitted a old new lists later path h edge room known (Err e) fine done o ok full fits = cc
+admitted a old new lists later path h edge room known (Ok t) fine done (Err f) ok full fits =
+    absurd (let some : 1 ≤ spare_at old path.from path.to = room.spare path.from path.to known.ends in omega (arith, full))
+admitted a old new lists later path h edge room known (Ok t) fine done (Ok u) ok full fits = record {
   fits = fits;
-  inserted = ok;
+  inserted = λ x y ends. (
+      let two : (x ≡ path.from) × (y ≡ path.to) = same_ends a path.id path.from path.to x y known.ends ends in
+      subst (λ k. IsInserted old new path.id k y) (sym two.0) (subst (λ k. IsInserted old new path.id path.from k) (sym two.1) ok)
+      );
   entered_lists = λ k q is_left is_right. (
-      let same_l : l ≡ k = (let two : Some l ≡ Some k = sym left ∙ is_left in cc) in
-      let same_r : r ≡ q = (let two : Some r ≡ Some q = sym right ∙ is_right in cc) in
-      done ∙ (λ i. entered lists id (same_l i) (same_r i))
+      let same_l : path.left ≡ k = (let two : Some path.left ≡ Some k = sym known.left ∙ is_left in cc) in
+      let same_r : path.right ≡ q = (let two : Some path.right ≡ Some q = sym known.right ∙ is_right in cc) in
+      done ∙ (λ i. entered lists path.id (same_l i) (same_r i))
       );
 }
+
+-- there is room, so the heaps tell whether it is the least
+pub told_least : {E : Type 0} (a : Arena) (old new : Heaps) (path : NewPath) → HasRoom a old path.id → IsKnownPath a path → (o : Result Bool E) → IfOk o (λ told. TellsLeast a told new old path.id path.from path.to) → OnErr o (spare_at old path.from path.to ≡ 0) → TellsLeast a (result_unwrap_or o false) new old path.id path.from path.to
+told_least a old new path room known (Ok told) least full = least
+told_least a old new path room known (Err e) least full = absurd (let some : 1 ≤ spare_at old path.from path.to = room.spare path.from path.to known.ends in omega (arith, full))
+
+-- a path that can be put in is between vertices of the heaps
+pub known_inside : (a : Arena) (h : Heaps) (path : NewPath) → IsArena a → HasAnEdge a path.id → HasRoom a h path.id → IsKnownPath a path → (path.from < h.vertices) × (path.to < h.vertices)
+known_inside a h path lawful edge room known = ends_in_rows h a path.id path.from path.to room.fits lawful (live_from_edge a path.id lawful edge) known.ends

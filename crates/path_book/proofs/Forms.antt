@@ -15,7 +15,7 @@ use Rattle.pair_heaps.proofs.Fits.{IsFreshIn, fresh_in, ends_in_rows}
 use Rattle.extension_lists.specs.Known.{Known, IsKnown}
 use Rattle.path_book.specs.Book.{Book, IsMarked, IsNewList, left_id, right_id, entered, with_kept, IsBook}
 use Rattle.path_book.specs.Layout.{HoldsPaths, IsStored}
-use Rattle.path_book.specs.Admitted.{StandsNowhere, CanEnter, HasRoom, IsAdmitted}
+use Rattle.path_book.specs.Admitted.{StandsNowhere, CanEnter, HasRoom, IsAdmitted, IsKnownPath}
 use Rattle.path_book.proofs.Formed.{IsNew, same_pair, ends_alike, edge_now, path_of_new, stored_formed}
 
 -- a path that was added and taken out again leaves the arena as it was
@@ -206,3 +206,9 @@ join_ends a h l r birth x y lawful fits can from to = record {
 
     right_begins : first (list_of a r) ≡ Some front
     right_begins = (first_is (list_of a r) long_right).1
+
+-- the parts and the ends of a join that is new in the arena
+pub join_known : (b : Book) (id l r birth x y : ℕ) (now : Arena) → IsBook b → IsNew b id (joined_path b.arena l r birth) → now ≡ with_path b.arena id (joined_path b.arena l r birth) → first (joined_path b.arena l r birth).list ≡ Some x → last (joined_path b.arena l r birth).list ≡ Some y → IsKnownPath now (record { id = id; left = l; right = r; from = x; to = y })
+join_known b id l r birth x y now was new is begins finishes =
+    let of : path_of now id ≡ joined_path b.arena l r birth = ap (λ a. path_of a id) is ∙ path_of_new b id (joined_path b.arena l r birth) was new in
+    record { left = ap (λ q. q.left) of; right = ap (λ q. q.right) of; ends = (ap (λ q. first q.list) of ∙ begins, ap (λ q. last q.list) of ∙ finishes) }

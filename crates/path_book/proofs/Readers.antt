@@ -11,9 +11,9 @@ use Rattle.apsp_model.specs.Paths.{IsKeptIn, IsHistoricalIn}
 use Rattle.fixup_math.proofs.Counting.{count_same, count_either, in_nil, head_in, tail_in}
 use Rattle.path_arena.specs.Arena.{Path, Arena, path_at, vertex_of, IsLive, path_of, list_of, HasAnEdge, single, id_cmp, IsArena}
 use Rattle.path_arena.proofs.Paths.{Parted, parted, live_path, live_from, live_from_edge, path_of_at}
-use Rattle.pair_heaps.specs.Heaps.{Heaps, held_at, HasEnds, IsLeastHeld}
+use Rattle.pair_heaps.specs.Heaps.{Heaps, held_at, HasEnds, IsHeld, IsLeastHeld, IsLeastIn, TellsLeast}
 use Rattle.pair_heaps.proofs.Orders.{not_below_itself}
-use Rattle.path_book.specs.Book.{Book, IsMarked, kept_paths, IsBook, IsLeastKept, KeepsNone, PathsCount, HistoricalCount}
+use Rattle.path_book.specs.Book.{Book, IsMarked, kept_paths, IsBook, IsLeastKept, KeepsNone, TellsLeastKept, PathsCount, HistoricalCount}
 use Rattle.path_book.specs.Layout.{IsCounted, IsStored}
 use Rattle.path_book.proofs.Kept.{kept_live, historical_marked}
 
@@ -122,6 +122,39 @@ simple_turn x (y ∷ z ∷ p) simple f l =
     last_stands [] u e = cc
     last_stands (v ∷ []) u e = head_in u v [] (let two : Some v ≡ Some u = e in cc)
     last_stands (v ∷ w ∷ p) u e = tail_in u v (w ∷ p) (last_stands (w ∷ p) u e)
+
+-- a path with an edge has two ends
+pub ends_apart : (b : Book) → IsBook b → (id x y : ℕ) → HasAnEdge b.arena id → HasEnds b.arena id x y → x ≢ y
+ends_apart b was id x y edge ends same =
+    let live = live_from_edge b.arena id was.arena edge in
+    let p = live_path b.arena id live in
+    let list : list_of b.arena id ≡ p.0.list = ap (λ r. r.list) (path_of_at b.arena id p.0 p.1) in
+    let simple : IsSimple (list_of b.arena id) = subst IsSimple (sym list) (was.arena.paths id p.0 p.1).simple in
+    let one : list_of b.arena id ≡ x ∷ [] = simple_turn x (list_of b.arena id) simple ends.0 (ends.1 ∙ ap Some (sym same)) in
+    omega (arith, ap length one, long_of_edge b.arena id was.arena edge)
+
+-- what the heaps tell of a path that is new in them
+pub tells_kept : (b : Book) (held old : Heaps) (historical pending x y id : ℕ) (told : Bool) → IsStored b held historical pending → TellsLeast b.arena told held old id x y → (IsHeld old id → ⊥) → TellsLeastKept b x y id told
+tells_kept b held old historical pending x y id told stored tells new = record {
+  yes = λ e. least id (tells.yes e);
+  no = λ e. (let q = tells.no e in (q.0, λ same. new (x, y, subst (Contains (held_at old x y)) same q.2.held), least q.0 q.1));
+}
+  where
+    least : (q : ℕ) → IsLeastIn b.arena held x y q → IsLeastKept b x y q
+    least q l = record {
+      live = stored.heaps.fits.live x y q l.held;
+      ends = stored.heaps.fits.ends x y q l.held;
+      least = λ r live ends below. l.least r (held_of r live ends) below;
+    }
+      where
+        apart : x ≢ y
+        apart = ends_apart b stored.book q x y (stored.heaps.only q x y l.held) (stored.heaps.fits.ends x y q l.held)
+
+        held_of : (r : ℕ) → IsLive b.arena r → HasEnds b.arena r x y → Contains (held_at held x y) r
+        held_of r live ends = elim (single_or_edge b.arena r stored.book.arena live) [
+          | inl one ↦ absurd (apart (last_of_one one.0 x y (list_of b.arena r) one.3 ends.0 ends.1))
+          | inr edge ↦ stored.heaps.held r x y edge ends
+        ]
 
 pub least_single : (b : Book) → IsBook b → (x : ℕ) → x < b.arena.vertices → IsLeastKept b x x (vertex_of b.arena x)
 least_single b was x l =

@@ -4,6 +4,7 @@ use Rattle.path_arena.specs.Arena.{Arena, left_of, right_of}
 use Rattle.pair_heaps.specs.Heaps.{Heaps, IsInserted, Fits, HasEnds, spare_at}
 use Rattle.extension_lists.specs.Known.{Known, IsKnown, sides_at}
 use Rattle.path_book.specs.Book.{entered}
+use Rattle.path_book.specs.declared.admit.NewPath.{NewPath}
 
 -- the id stands in no list
 pub record StandsNowhere (lists : Known) (id : ℕ) : Type 0 where
@@ -23,6 +24,12 @@ pub record CanEnter (a : Arena) (lists : Known) (id : ℕ) : Type 0 where
 pub record HasRoom (a : Arena) (heaps : Heaps) (id : ℕ) : Type 0 where
   pub fits : Fits heaps a
   pub spare : (x y : ℕ) → HasEnds a id x y → 1 ≤ spare_at heaps x y
+
+-- the parts and the ends of a path of the arena are these
+pub record IsKnownPath (a : Arena) (path : NewPath) : Type 0 where
+  pub left : left_of a path.id ≡ Some path.left
+  pub right : right_of a path.id ≡ Some path.right
+  pub ends : HasEnds a path.id path.from path.to
 
 pub record IsAdmitted (a : Arena) (old new : Heaps) (lists later : Known) (id : ℕ) : Type 0 where
   pub fits : Fits new a

@@ -1,5 +1,5 @@
 -- What contracts see of a book: the kept paths, which of them are historical, and their extensions.
-use Rattle.std.specs.Prelude.{◌≡◌, ℕ, ◌<◌, ◌⊎◌, ◌↔◌, IsTrue, List, map, Some, unwrap_or, refl, Contains}
+use Rattle.std.specs.Prelude.{◌≡◌, ◌≢◌, ℕ, ◌<◌, ◌⊎◌, ◌↔◌, Bool, true, false, IsTrue, List, map, Some, unwrap_or, refl, Contains}
 use Rattle.std.specs.Ordering.{nat_cmp}
 use Rattle.std.specs.Coded.{Coded, code_by, coded×, coded_ℕ}
 use Rattle.std.specs.FinMap as paths
@@ -99,6 +99,11 @@ pub record IsLeastKept (b : Book) (x y id : ℕ) : Type 0 where
 
 abbrev pub KeepsNone : Book → ℕ → ℕ → Type 0
 KeepsNone b x y = (q : ℕ) → IsLive b.arena q → HasEnds b.arena q x y → ⊥
+
+-- whether a kept path is the least of its pair, where another one is if it is not
+pub record TellsLeastKept (b : Book) (x y id : ℕ) (told : Bool) : Type 0 where
+  pub yes : told ≡ true → IsLeastKept b x y id
+  pub no : told ≡ false → (q : ℕ) × (q ≢ id) × IsLeastKept b x y q
 
 -- the least kept path of the pair, which is not historical
 abbrev pub IsPendingLeast : Book → ℕ → ℕ → ℕ → Type 0

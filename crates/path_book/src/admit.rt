@@ -1,11 +1,11 @@
 //! A new path is put into the parts of a book.
 
-ghost use Rattle.std.specs.Prelude.{◌≡◌, ℕ, ◌≤◌, Some, [], OnOk, OnErr};
+ghost use Rattle.std.specs.Prelude.{◌≡◌, ℕ, ◌≤◌, Some, [], IfOk, OnOk, OnErr};
 ghost use Rattle.std.specs.FinMap as map;
 ghost use Rattle.path_arena.specs.Arena.{HasAnEdge, without_path, IsPartOfNone, IsArena};
-ghost use Rattle.pair_heaps.specs.Heaps.{IsHeld};
+ghost use Rattle.pair_heaps.specs.Heaps.{IsHeld, TellsLeast};
 ghost use Rattle.extension_lists.specs.Known.{IsKnown};
-ghost use Rattle.path_book.specs.Admitted.{StandsNowhere, CanEnter, HasRoom, IsAdmitted};
+ghost use Rattle.path_book.specs.Admitted.{StandsNowhere, CanEnter, HasRoom, IsAdmitted, IsKnownPath};
 ghost use Rattle.path_book.specs.Book.{entered};
 ghost use Rattle.path_book.specs.Layout.{IsOpenedTo};
 
@@ -14,6 +14,16 @@ use apsp_model::Memory;
 use extension_lists::Lists;
 use pair_heaps::Heaps;
 use path_arena::{Arena, PathId};
+
+/// A path that is new in the arena, with its parts and its ends.
+#[derive(Clone, Copy)]
+pub(crate) struct NewPath {
+    pub(crate) id: PathId,
+    pub(crate) left: PathId,
+    pub(crate) right: PathId,
+    pub(crate) from: u32,
+    pub(crate) to: u32,
+}
 
 /// Puts a path that is new in the arena into the heap of its pair and the lists of its parts. Where
 /// there is no memory it is taken out of the arena again.
@@ -35,14 +45,46 @@ pub(crate) fn admit(
     ensures heaps_kept { OnErr result (heaps.new ≡ heaps.old) }
     ensures lists_kept { OnErr result (lists.new ≡ lists.old) }
 {
-    let (left, right) = (arena.left_part(id), arena.right_part(id));
-    if enter(lists, id, left, right).is_err() {
-        arena.remove(id);
+    let path = NewPath {
+        id,
+        left: arena.left_part(id),
+        right: arena.right_part(id),
+        from: arena.first(id),
+        to: arena.last(id),
+    };
+    admit_known(arena, heaps, lists, path)?;
+    Ok(())
+}
+
+/// The same for a path whose parts and ends are known. Says whether it is the least of its pair.
+#[inline(always)]
+pub(crate) fn admit_known(
+    arena: &mut Arena,
+    heaps: &mut Heaps,
+    lists: &mut Lists,
+    path: NewPath,
+) -> Result<bool, Memory>
+    requires lawful { IsArena arena.old }
+    requires edge { HasAnEdge arena.old path.id }
+    requires free { IsPartOfNone arena.old path.id }
+    requires room { HasRoom arena.old heaps.old path.id }
+    requires new { IsHeld heaps.old path.id → ⊥ }
+    requires lists { CanEnter arena.old lists.old path.id }
+    requires known { IsKnownPath arena.old path }
+    ensures kept { OnOk result (arena.new ≡ arena.old) }
+    ensures admitted { OnOk result (IsAdmitted arena.new heaps.old heaps.new lists.old lists.new path.id) }
+    ensures least { IfOk result (λ told. TellsLeast arena.new told heaps.new heaps.old path.id path.from path.to) }
+    ensures taken_back { OnErr result (arena.new ≡ without_path arena.old path.id) }
+    ensures heaps_kept { OnErr result (heaps.new ≡ heaps.old) }
+    ensures lists_kept { OnErr result (lists.new ≡ lists.old) }
+{
+    if enter(lists, path.id, path.left, path.right).is_err() {
+        arena.remove(path.id);
         return Err(Memory);
     }
     // There is room, so it takes none.
-    let _ = heaps.insert(arena, id);
-    Ok(())
+    let told = heaps.insert_between(arena, path.id, path.from, path.to);
+    Ok(told.unwrap_or(false))
 }
 
 /// Lets the lists know an id, as an extension of its two parts.

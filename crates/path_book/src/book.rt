@@ -2,13 +2,13 @@
 
 ghost use Rattle.std.specs.Prelude.{◌≡◌, ◌≢◌, ℕ, ◌<◌, ◌≤◌, ◌^◌, ◌↔◌, ◌∷◌, [], All, Some, IfNone, IfOk, IfSome, OnOk, OnErr, MatchOption, Contains, length};
 ghost use Rattle.std.specs.FinSet as set;
-ghost use Rattle.apsp_model.specs.Walk.{IsOnceEach};
+ghost use Rattle.apsp_model.specs.Walk.{IsOnceEach, first, last};
 ghost use Rattle.apsp_model.specs.Paths.{IsKeptIn, HasBirthIn};
 ghost use Rattle.extension_lists.specs.Known.{IsStarred};
-ghost use Rattle.path_arena.specs.Arena.{path_at, path_of, IsLive, HasAnEdge, edge_path, joined_path, IsPartOfNone, CanJoin};
-ghost use Rattle.path_book.specs.Book.{IsBook, IsMarked, IsOpening, kept_paths, IsNewList, with_kept, with_mark, left_id, right_id, IsForgotten, IsLeastKept, KeepsNone, IsPendingLeast, HasNoPendingLeast, HasNonePending, ArePendingLeasts, PathsCount, HistoricalCount};
+ghost use Rattle.path_arena.specs.Arena.{path_at, path_of, list_of, IsLive, HasAnEdge, edge_path, joined_path, IsPartOfNone, CanJoin};
+ghost use Rattle.path_book.specs.Book.{IsBook, IsMarked, IsOpening, kept_paths, IsNewList, with_kept, with_mark, left_id, right_id, IsForgotten, IsLeastKept, KeepsNone, IsPendingLeast, HasNoPendingLeast, HasNonePending, TellsLeastKept, ArePendingLeasts, PathsCount, HistoricalCount};
 
-use crate::admit::{admit, enter_vertices};
+use crate::admit::{NewPath, admit, admit_known, enter_vertices};
 use crate::dirty::Dirty;
 use crate::marks::{clear, is_marked, make_room};
 use apsp_model::{MOST_VERTICES, Memory};
@@ -20,6 +20,15 @@ use std::marker::Model;
 
 /// More paths than any machine has room for, so that every count fits.
 const MOST_PATHS: u64 = 1 << 48;
+
+/// A join that was kept.
+#[derive(Clone, Copy, Debug, PartialEq, Eq)]
+pub struct NewJoin {
+    /// Its id.
+    pub id: PathId,
+    /// Whether it is the least kept path of its pair.
+    pub is_least: bool,
+}
 
 /// The kept paths. Contracts see them by id, with the ids of those that are historical.
 #[derive(Drop)]
@@ -111,16 +120,49 @@ impl Book {
         ensures lawful { IsBook self.new }
         ensures memory { OnErr result (self.new ≡ self.old) }
     {
+        let (from, to) = (self.arena.first(l), self.arena.last(r));
+        let formed = self.form_join_between(l, r, from, to, birth)?;
+        Ok(formed.id)
+    }
+
+    /// The same where the first vertex of l and the last one of r are known. Says whether the join is
+    /// the least kept path of its pair.
+    pub fn form_join_between(
+        &mut self,
+        l: PathId,
+        r: PathId,
+        from: u32,
+        to: u32,
+        birth: u64,
+    ) -> Result<NewJoin, Memory>
+        requires join { CanJoin self.old.arena l r }
+        requires left { IsMarked self.old l }
+        requires right { IsMarked self.old r }
+        requires new { IsNewList self.old (joined_path self.old.arena l r birth).list }
+        requires from { first (list_of self.old.arena l) ≡ Some from }
+        requires to { last (list_of self.old.arena r) ≡ Some to }
+        ensures fresh { IfOk result (λ f. path_at self.old.arena f.id ≡ None) }
+        ensures formed { IfOk result (λ f. self.new ≡ with_kept self.old f.id (joined_path self.old.arena l r birth)) }
+        ensures least { IfOk result (λ f. TellsLeastKept self.new from to f.id f.is_least) }
+        ensures lawful { IsBook self.new }
+        ensures memory { OnErr result (self.new ≡ self.old) }
+    {
         if self.historical + self.pending == MOST_PATHS {
             return Err(Memory);
         }
-        let (from, to) = (self.arena.first(l), self.arena.last(r));
         self.heaps.reserve(from, to)?;
         let id = self.arena.join(l, r, birth)?;
-        admit(&mut self.arena, &mut self.heaps, &mut self.lists, id)?;
+        let path = NewPath {
+            id,
+            left: l,
+            right: r,
+            from,
+            to,
+        };
+        let is_least = admit_known(&mut self.arena, &mut self.heaps, &mut self.lists, path)?;
         self.dirty.note_all();
         self.pending += 1;
-        Ok(id)
+        Ok(NewJoin { id, is_least })
     }
 
     /// Makes a kept path historical. Memory changes nothing.
