@@ -3,7 +3,7 @@ use Rattle.std.specs.Prelude.{◌≡◌, ℕ, ◌≤◌, ◌<◌, Bool, false, S
 use Rattle.std.specs.Result.{is_err, result_unwrap_or}
 use Rattle.std.proofs.Common.{sym, ◌∙◌, ap, subst, arith}
 use Rattle.apsp_model.proofs.Walks.{first_is, last_is}
-use Rattle.path_arena.specs.Arena.{Arena, list_of, left_of, right_of, HasAnEdge, IsArena}
+use Rattle.path_arena.specs.Arena.{Arena, list_of, HasAnEdge, IsArena}
 use Rattle.path_arena.proofs.Paths.{Parted, parted, live_from_edge}
 use Rattle.pair_heaps.specs.Heaps.{Heaps, IsInserted, Fits, HasEnds, spare_at, TellsLeast}
 use Rattle.pair_heaps.proofs.Fits.{ends_in_rows}

@@ -1,5 +1,5 @@
 -- Of each pair that is not dirty the least kept path, if there is one, is historical.
-use Rattle.std.specs.Prelude.{◌≡◌, ◌≢◌, ℕ, ◌<◌, Bool, true, false, [], ◌∷◌, length, Option, Some, None, MatchOption, IsNone, is_some, unwrap_or, refl}
+use Rattle.std.specs.Prelude.{◌≡◌, ◌≢◌, ℕ, ◌<◌, [], ◌∷◌, Some, is_some, unwrap_or, refl}
 use Rattle.std.specs.FinSet as set
 use Rattle.std.proofs.Common.{sym, ◌∙◌, ap, subst, arith, inl, inr}
 use Rattle.std.proofs.lemmas.Bool.{cases_eq, false≢true, true≢false}
@@ -11,7 +11,7 @@ use Rattle.path_arena.proofs.Paths.{path_of_at, live_from_edge}
 use Rattle.pair_heaps.specs.Heaps.{HasEnds}
 use Rattle.pair_heaps.proofs.Places.{ends_inside}
 use Rattle.extension_lists.specs.Known.{Known}
-use Rattle.path_book.specs.Book.{Book, IsMarked, with_kept, with_mark, IsForgotten, IsOpening, IsBook, IsLeastKept, KeepsNone, IsPendingLeast, HasNoPendingLeast}
+use Rattle.path_book.specs.Book.{Book, IsMarked, with_kept, with_mark, IsForgotten, IsOpening, IsBook, IsLeastKept, KeepsNone, HasNoPendingLeast}
 use Rattle.path_book.specs.Dirty.{Dirty, is_dirty, with_all, IsNoted}
 use Rattle.path_book.specs.Layout.{IsClean}
 use Rattle.path_book.proofs.Sets.{marked_put, marked_put_other, marked_gone_other}

@@ -1,12 +1,12 @@
 -- The least paths of pairs that are not historical, listed pair by pair.
-use Rattle.std.specs.Prelude.{◌≡◌, ℕ, zero, suc, ◌+◌, ◌<◌, ◌≤◌, ◌⊎◌, Bool, true, false, cond, List, [], ◌∷◌, ◌++◌, length, take, Option, Some, None, MatchOption, refl, Contains, get_or, slice_index_or, Result, Ok, Err, OnOk}
+use Rattle.std.specs.Prelude.{◌≡◌, ℕ, zero, suc, ◌+◌, ◌<◌, ◌≤◌, ◌⊎◌, Bool, true, false, cond, List, [], ◌∷◌, ◌++◌, length, take, refl, Contains, get_or, slice_index_or, Result, Ok, Err, OnOk}
 use Rattle.std.proofs.Common.{sym, ◌∙◌, ap, subst, arith, inl, inr}
 use Rattle.std.proofs.lemmas.List.{take_more, take_all, get_or_default}
 use Rattle.std.proofs.lemmas.List.Elements.{Contains-append_left, Contains-append_right, Contains-push_cases}
 use Rattle.apsp_model.specs.Walk.{IsOnceEach}
 use Rattle.fixup_math.proofs.Counting.{in_cons, in_nil, head_in, once_append}
 use Rattle.path_book.specs.Book.{Book, HasNoPendingLeast, IsPendingLeast, ArePendingLeasts}
-use Rattle.path_book.specs.Dirty.{Dirty, flag_at, is_dirty}
+use Rattle.path_book.specs.Dirty.{Dirty, flag_at}
 use Rattle.path_book.specs.Layout.{AreHeadsOf, IsClean}
 use Rattle.path_book.proofs.Formed.{ends_alike}
 

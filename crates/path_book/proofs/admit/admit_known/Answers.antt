@@ -1,4 +1,4 @@
-use Rattle.std.proofs.Common.{◌≡◌, sym, ◌∙◌, ap, subst}
+use Rattle.std.proofs.Common.{sym, ◌∙◌, subst}
 use Rattle.pair_heaps.specs.Heaps.{TellsLeast}
 use Rattle.path_book.proofs.Admitting.{admitted, told_least, known_inside}
 use Rattle.path_book.proofs.admit.admit_known.Goals as goal

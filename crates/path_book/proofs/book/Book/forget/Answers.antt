@@ -1,7 +1,7 @@
 use Rattle.std.proofs.Common.{true, false, refl, sym, ◌∙◌, subst}
 use Rattle.path_arena.specs.Arena.{HasAnEdge, IsPartOfNone}
 use Rattle.path_book.specs.Book.{Book}
-use Rattle.path_book.specs.Layout.{view_of, marked_in}
+use Rattle.path_book.specs.Layout.{view_of}
 use Rattle.path_book.proofs.Forgotten.{LeftOver, left_over_now, empty_lists, stands_only, is_held}
 use Rattle.path_book.proofs.Clean.{ends_in_pairs, clean_forgotten}
 use Rattle.path_book.proofs.book.Book.forget.Goals as goal

@@ -4,7 +4,7 @@ use Rattle.path_book.specs.Book.{Book, with_kept, IsNewList, IsBook}
 use Rattle.path_book.specs.Layout.{view_of, IsStored, IsClean}
 use Rattle.path_book.proofs.Formed.{IsNew}
 use Rattle.path_book.proofs.Forms.{stored_reserved, AsksMet, asks_met, IsFormed, is_formed, is_taken_back, on_err, new_edge}
-use Rattle.path_book.proofs.Clean.{in_pairs, clean_formed}
+use Rattle.path_book.proofs.Clean.{clean_formed}
 use Rattle.path_book.proofs.book.Book.form_edge.Goals as goal
 
 -- after there is room in the heap

@@ -1,8 +1,8 @@
-use Rattle.std.proofs.Common.{◌≡◌, ◌<◌, ◌+◌, ◌++◌, ◌∷◌, [], ℕ, Vec, Global, length, take, slice_index_or, sym, ◌∙◌, ap, subst, rules}
+use Rattle.std.proofs.Common.{◌≡◌, ◌+◌, ◌++◌, ◌∷◌, [], ℕ, Vec, Global, take, slice_index_or, sym, ◌∙◌, ap, subst, rules}
 use Rattle.std.proofs.lemmas.List.{get_or_default}
 use Rattle.path_arena.specs.declared.id.PathId.{PathId}
 use Rattle.path_book.specs.Layout.{AreHeadsOf}
-use Rattle.path_book.proofs.Heads.{pair_in, heads_none, heads_without, heads_with, heads_all}
+use Rattle.path_book.proofs.Heads.{pair_in, heads_without, heads_with}
 use Rattle.path_book.proofs.book.Book.push_heads.Goals as goal
 use Rattle.path_book.proofs.book.Book.push_heads.Goals.{in-Some+in_ok-map_err, in_default}
 
