@@ -7,7 +7,10 @@ pub mod Check
 pub mod Replies
 pub mod Begun
 pub mod Words
+pub mod Blocks
 pub mod Session
+pub mod Lawful
+pub mod BlockInside
 pub mod Giving
 pub mod Standing
 pub mod Running

@@ -1,17 +1,23 @@
-ghost use Rattle.std.specs.Prelude.{◌≡◌, ◌⊎◌, ◌↔◌, ◌+◌, ◌≤◌, List, [], ℕ, length, map, None, IfSome, IsSome, string_bytes};
-ghost use Rattle.apsp_service.specs.Words.{HasWorkers, mode_of};
+ghost use Rattle.std.specs.Prelude.{◌≡◌, ◌⊎◌, ◌↔◌, ◌+◌, ◌≤◌, List, [], ℕ, length, map, None, IfSome, IsSome, false, true, string_bytes};
+ghost use Rattle.block_run.specs.Run.{CanRun, HasRun};
+ghost use Rattle.apsp_service.specs.Words.{HasWorkers, IsWorkerCount, IsReaderCount, IsSlotCount, mode_of};
 ghost use Rattle.std.specs.Io.KnownBytes.{Appends};
 ghost use Rattle.apsp_io.specs.Streams.{Rose};
-ghost use Rattle.apsp_service.specs.Session.{Session};
+ghost use Rattle.apsp_service.specs.Session.{Session, has_blocks};
 ghost use Rattle.apsp_service.specs.Outcome.{status_after, ReadToEnd, IsStatus, IsAnswered, IsStoppedEarly, IsCutShort, IsComplete, IsCheck, TookMoreThan, TookAtMost, SaysTooMuch, SaysRefused};
 ghost use Rattle.apsp_service.specs.Ending.{EndsAs};
 
+use crate::blocks::{LiveBlocks, NoBlocks};
 use crate::check::check_input;
 use crate::crew::Crew;
 use crate::run::{MOST_INPUT, run};
 use crate::stop::Stop;
 use crate::words::{Mode, read_words};
 use apsp_io::{Gate, Sink, Source};
+use apsp_model::Memory;
+use block_run::{Asks, BlockAnswers, live_block};
+use graph_store::Plan;
+use history_engine::Engine;
 use std::alloc::Global;
 use std::marker::Sync;
 use std::sync::Wait;
@@ -33,6 +39,7 @@ pub fn script<S: Source, K: Sink, G: Gate, R: Threads + Sync>(
     gate: &G,
 ) -> u8
     requires workers { HasWorkers mode.now }
+    requires no_blocks { has_blocks mode.now ≡ false }
     // Of a status: the session of the whole input gives it, or what failed has counted a fault.
     ensures answered { ReadToEnd result → IsAnswered mode.now (S.left source.old) (S.left source.new) (K.held sink.old) (K.held sink.new) result }
     ensures source_failed { result ≡ 3 → Rose (S.faults source.old) (S.faults source.new) }
@@ -77,10 +84,65 @@ fn run_as<S: Source, K: Sink, G: Gate, R: Threads + Sync>(
 {
     match mode {
         Mode::Run { workers, smooth } => {
-            let crew = Crew::new(rt, *workers, gate);
+            let blocks = NoBlocks;
+            let crew = Crew::new(rt, *workers, gate, &blocks);
             run(alloc, &crew, *smooth, source, sink)
         }
         Mode::Check => check_input(alloc, source, sink),
+        Mode::Live { .. } => unreachable!(),
+    }
+}
+
+/// Runs a mode with blocks, and says whether something was refused.
+fn live_as<S: Source, K: Sink, G: Gate, R: Threads + Wait + Sync>(
+    rt: &R,
+    alloc: Global,
+    mode: &Mode,
+    source: &mut S,
+    sink: &mut K,
+    gate: &G,
+) -> Result<bool, Stop>
+    requires workers { HasWorkers mode.now }
+    requires blocks { has_blocks mode.now ≡ true }
+    ensures ends { EndsAs mode.now result (S.left source.old) (S.left source.new) (K.held sink.old) (K.held sink.new)
+        (S.faults source.old) (S.faults source.new) (K.faults sink.old) (K.faults sink.new) }
+    ensures source_later { S.faults source.old ≤ S.faults source.new }
+    ensures sink_later { K.faults sink.old ≤ K.faults sink.new }
+{
+    match mode {
+        Mode::Live {
+            workers,
+            readers,
+            slots,
+            smooth,
+        } => {
+            let (workers, readers, slots) = (*workers, *readers, *slots);
+            let run_one = |engine: &mut Engine, plan: &Plan, asks: &Asks| -> Result<
+                BlockAnswers,
+                Memory,
+            >
+                requires workers { IsWorkerCount workers }
+                requires readers { IsReaderCount readers }
+                requires slots { IsSlotCount slots }
+                requires can { CanRun engine.old plan.now asks.now }
+                ensures { HasRun readers engine.old plan.now asks.now result engine.new }
+            { live_block(rt, alloc, engine, plan, asks, readers, slots, workers, gate) };
+            let blocks = LiveBlocks::new(readers, &run_one);
+            let crew = Crew::new(rt, workers, gate, &blocks);
+            run(alloc, &crew, *smooth, source, sink)
+        }
+        Mode::Run { .. } => unreachable!(),
+        Mode::Check => unreachable!(),
+    }
+}
+
+/// Whether the mode has blocks.
+fn has_blocks(mode: &Mode) -> bool
+    ensures { result ≡ has_blocks mode.now }
+{
+    match mode {
+        Mode::Run { .. } | Mode::Check => false,
+        Mode::Live { .. } => true,
     }
 }
 
@@ -129,6 +191,7 @@ pub fn top<S: Source, K: Sink, G: Gate, R: Threads + Wait + Sync>(
     ensures sink_later { K.faults sink.old ≤ K.faults sink.new }
 {
     match read_words(words) {
+        Some(mode) if has_blocks(&mode) => status(live_as(rt, alloc, &mode, source, sink, gate)),
         Some(mode) => script(rt, alloc, &mode, source, sink, gate),
         None => 2,
     }

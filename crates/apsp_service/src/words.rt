@@ -1,15 +1,31 @@
 ghost use Rattle.std.specs.Prelude.{◌≡◌, IfSome, map, string_bytes};
-ghost use Rattle.apsp_service.specs.Words.{HasWorkers, mode_of, run_of, check_of};
+ghost use Rattle.apsp_service.specs.Words.{HasWorkers, mode_of, run_of, check_of, live_of};
 ghost use Rattle.apsp_service.specs.declared.words.Mode.TheVariants as mode;
 
 /// The most workers of a mode.
 pub const MOST_WORKERS: u32 = 64;
+
+/// The most readers of a block.
+pub const MOST_READERS: u32 = 32;
+
+/// The least slots of a block.
+pub const LEAST_SLOTS: u32 = 2;
+
+/// The most slots of a block.
+pub const MOST_SLOTS: u32 = 64;
 
 /// What the program is to do.
 #[derive(Clone, Copy, Debug, PartialEq, Eq)]
 pub enum Mode {
     /// Runs a script, with 1 to `MOST_WORKERS` workers and with or without smoothing.
     Run { workers: u32, smooth: bool },
+    /// The same with blocks, whose questions so many readers answer from so many slots.
+    Live {
+        workers: u32,
+        readers: u32,
+        slots: u32,
+        smooth: bool,
+    },
     /// Reads a certificate, and says what holds of it.
     Check,
 }
@@ -24,6 +40,7 @@ pub fn read_words(words: &[String]) -> Option<Mode>
     match words {
         [] => run_mode(words),
         [mode, options @ ..] if mode.as_str() == "run" => run_mode(options),
+        [mode, options @ ..] if mode.as_str() == "live" => live_mode(options),
         [mode, options @ ..] if mode.as_str() == "check" => check_mode(options),
         _ => None,
     }
@@ -36,6 +53,21 @@ fn run_mode(options: &[String]) -> Option<Mode>
     match options {
         [] => Some(run(false)),
         [option] if option.as_str() == "--smooth" => Some(run(true)),
+        _ => None,
+    }
+}
+
+/// The mode `live`, with no options yet.
+fn live_mode(options: &[String]) -> Option<Mode>
+    ensures { result ≡ live_of (map string_bytes options.now) }
+{
+    match options {
+        [] => Some(Mode::Live {
+            workers: 4,
+            readers: 2,
+            slots: 4,
+            smooth: false,
+        }),
         _ => None,
     }
 }
