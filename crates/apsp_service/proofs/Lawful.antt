@@ -150,11 +150,19 @@ last_more g stars now star found last new was is e made =
     let F : List Star → Type 0 = λ ss. Some found ≡ slice_get ss (length ss - 1) in
     made ∙ (λ i. star_of (was i) (last_is stars star found (subst F is e) i)) ∙ sym (after_more g stars star) ∙ ap (graph_after g) (sym is)
 
-pub apply_last : (p q : Plan) (star found : Star) (number : ℕ) (last new : Graph) → last ≡ graph_after p.start p.stars → q ≡ with_star p star → number ≡ hi_of q → slice_get q.stars (number - q.lo - 1) ≡ Some found → new ≡ star_of last found → new ≡ graph_after q.start q.stars
-apply_last p q star found number last new was is at e made =
-    let F : Plan → Type 0 = λ z. new ≡ graph_after z.start z.stars in
+-- the star that a plan has for its last number is the one that was put behind it
+found_is : (p q : Plan) (star found : Star) (number : ℕ) → q ≡ with_star p star → number ≡ hi_of q → slice_get q.stars (number - q.lo - 1) ≡ Some found → Some found ≡ slice_get (p.stars ++ star ∷ []) (length (p.stars ++ star ∷ []) - 1)
+found_is p q star found number is at e =
     let G : Plan → Type 0 = λ z. slice_get z.stars (number - z.lo - 1) ≡ Some found in
     let top : number ≡ p.lo + length (p.stars ++ star ∷ []) = at ∙ ap hi_of is in
     let place : number - p.lo - 1 ≡ length (p.stars ++ star ∷ []) - 1 = omega (arith, top) in
-    let last_star : Some found ≡ slice_get (p.stars ++ star ∷ []) (length (p.stars ++ star ∷ []) - 1) = sym (subst G is e) ∙ ap (slice_get (p.stars ++ star ∷ [])) place in
-    subst F (sym is) (last_more p.start p.stars (p.stars ++ star ∷ []) star found last new was refl last_star made)
+    sym (subst G is e) ∙ ap (slice_get (p.stars ++ star ∷ [])) place
+
+pub found_vertices : (p q : Plan) (star found : Star) (number : ℕ) (last : Graph) → last ≡ graph_after p.start p.stars → q ≡ with_star p star → number ≡ hi_of q → slice_get q.stars (number - q.lo - 1) ≡ Some found → star.vertices ≡ (graph_after p.start p.stars).vertices → found.vertices ≡ last.vertices
+found_vertices p q star found number last was is at e same =
+    ap (λ (s : Star). s.vertices) (last_is p.stars star found (found_is p q star found number is at e)) ∙ same ∙ ap (λ (g : Graph). g.vertices) (sym was)
+
+pub apply_last : (p q : Plan) (star found : Star) (number : ℕ) (last new : Graph) → last ≡ graph_after p.start p.stars → q ≡ with_star p star → number ≡ hi_of q → slice_get q.stars (number - q.lo - 1) ≡ Some found → new ≡ star_of last found → new ≡ graph_after q.start q.stars
+apply_last p q star found number last new was is at e made =
+    let F : Plan → Type 0 = λ z. new ≡ graph_after z.start z.stars in
+    subst F (sym is) (last_more p.start p.stars (p.stars ++ star ∷ []) star found last new was refl (found_is p q star found number is at e) made)

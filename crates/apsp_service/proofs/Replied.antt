@@ -97,6 +97,7 @@ line_reply_exists s (line.Path x y) h = reply_exists s.vertices s.smooth s.comma
 line_reply_exists s (line.Row x) h = reply_exists s.vertices s.smooth s.commands (line.Row x)
 line_reply_exists s line.Stats h = reply_exists s.vertices s.smooth s.commands line.Stats
 line_reply_exists s (line.Age list) h = reply_exists s.vertices s.smooth s.commands (line.Age list)
+line_reply_exists s line.Cert h = reply_exists s.vertices s.smooth s.commands line.Cert
 line_reply_exists s line.Block h = reply_exists s.vertices s.smooth s.commands line.Block
 line_reply_exists s (line.Ask x y since) h = reply_exists s.vertices s.smooth s.commands (line.Ask x y since)
 

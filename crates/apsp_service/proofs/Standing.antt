@@ -1,5 +1,5 @@
 -- A session goes on standing for the lines that were read.
-use Rattle.std.proofs.Common.{◌≡◌, ℕ, ◌+◌, ◌<◌, ◌≤◌, ◌^◌, true, List, [], ◌∷◌, ◌++◌, length, length-append, refl, sym, ap, subst, ◌∙◌, arith}
+use Rattle.std.proofs.Common.{◌≡◌, ℕ, ◌+◌, ◌<◌, ◌≤◌, ◌^◌, true, List, [], ◌∷◌, ◌++◌, length, length-append, append-nil, refl, sym, ap, subst, ◌∙◌, arith}
 use Rattle.std.specs.Prelude.{Bool, Option, Some, None, Result, Ok, Err, OnOk, IfOk, IfSome, IsSome, is_some, false}
 use Rattle.apsp_model.specs.Command.{Command, Update, graph_of}
 use Rattle.apsp_model.specs.Graph.{Graph}
@@ -318,7 +318,7 @@ run_for n x before after p asks r is run =
     let F : ℕ → Type 0 = λ k. HasRun k before p asks r after in
     subst F same run
 
-inside_as : (seen : Option Seen) (open_block : Option Block) (e : Seen) (b : Block) (s : State) → seen ≡ Some e → open_block ≡ Some b → HasInside seen open_block s → HasInside (Some e) (Some b) s
+pub inside_as : (seen : Option Seen) (open_block : Option Block) (e : Seen) (b : Block) (s : State) → seen ≡ Some e → open_block ≡ Some b → HasInside seen open_block s → HasInside (Some e) (Some b) s
 inside_as seen open_block e b s se ob h =
     let F : Option Seen → Type 0 = λ z. HasInside z open_block s in
     let G : Option Block → Type 0 = λ o. HasInside (Some e) o s in
@@ -390,3 +390,15 @@ silent_inside n m smooth commands readers b line.Cert f = absurd (let no : true 
 silent_inside n m smooth commands readers b line.Block f = refl
 silent_inside n m smooth commands readers b (line.Ask x y since) f = refl
 silent_inside n m smooth commands readers b line.End f = refl
+
+-- what is said of the network's number of vertices and smoothing holds of those of the state
+pub of_network : {E : Type 0} (r : Result (Unit {0}) E) (P : ℕ → Bool → List ℕ → Type 0) (e : Seen) (s : State) (old new : List ℕ) → IsNetworkOf e s → OnOk r (GrowsBy (P e.opening e.smooth) old new) → OnOk r (GrowsBy (P s.vertices s.smooth) old new)
+of_network r P e s old new h grows =
+    let F : ℕ → Type 0 = λ n. OnOk r (GrowsBy (P n e.smooth) old new) in
+    let G : Bool → Type 0 = λ b. OnOk r (GrowsBy (P s.vertices b) old new) in
+    subst G h.smooth (subst F (sym h.vertices) grows)
+
+-- a text grows by a reply that is empty
+pub grows_by_none : {E : Type 0} (r : Result (Unit {0}) E) (P : List ℕ → Type 0) (text : List ℕ) → P [] → OnOk r (GrowsBy P text text)
+grows_by_none (Err e) P text h = tt
+grows_by_none (Ok u) P text h = ([], h, sym (append-nil text))

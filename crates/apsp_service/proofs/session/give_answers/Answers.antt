@@ -7,7 +7,7 @@ returns-in_err-put_answer-clause-later g c = c.loop-answer.invariant.1
 
 pub returns-in_err-put_answer-clause-given : goal.returns-in_err-put_answer-clause-given
 returns-in_err-put_answer-clause-given g c =
-    memory_in_texts _ _ _ _ _ [] c.args.answers.now c.loop-answer.answer-index c.from_residual-in_err-put_answer.ensures.1 c.loop-answer.invariant.0
+    memory_in_texts _ _ _ _ _ [] c.args.answers.now c.loop-answer.answer-index c.from_residual.ensures.1 c.loop-answer.invariant.0
 
 pub returns-in_err-give-clause-later : goal.returns-in_err-give-clause-later
 returns-in_err-give-clause-later g c = omega (arith, c.loop-answer.invariant.1, c.give.ensures.later)
