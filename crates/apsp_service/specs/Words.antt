@@ -1,9 +1,11 @@
 -- The words of the command line.
-use Rattle.std.specs.Prelude.{ℕ, ◌≤◌, ⊤, true, false, List, [], ◌∷◌, Option, Some, None, codes, if◌then◌else◌}
+use Rattle.std.specs.Prelude.{ℕ, ◌≤◌, ⊤, Bool, true, false, ◌&&◌, ◌||◌, nat_le, is_some, List, [], ◌∷◌, length, Option, Some, None, IfSome, option_map, option_and_then, unwrap_or, codes, if◌then◌else◌}
 use Rattle.std.specs.Str.{bytes_eq}
+use Rattle.script_reader.specs.Numbers.{number_of}
 use Rattle.apsp_service.specs.declared.words.Mode.{Mode}
 use Rattle.apsp_service.specs.declared.words.Mode.TheVariants as mode
-use Rattle.apsp_service.specs.declared.words.TheConstants.{MOST_WORKERS, MOST_READERS, LEAST_SLOTS, MOST_SLOTS}
+use Rattle.apsp_service.specs.declared.words.Options.{Options}
+use Rattle.apsp_service.specs.declared.words.TheConstants.{MOST_WORKERS, WORKERS, MOST_READERS, READERS, LEAST_SLOTS, MOST_SLOTS, SLOTS, MOST_DIGITS}
 
 -- how many workers there may be
 abbrev pub IsWorkerCount : ℕ → Type 0
@@ -21,16 +23,62 @@ HasWorkers (mode.Run workers smooth) = IsWorkerCount workers
 HasWorkers (mode.Live workers readers slots smooth) = IsWorkerCount workers × IsReaderCount readers × IsSlotCount slots
 HasWorkers mode.Check = ⊤
 
--- what the options behind the mode `run` say
-abbrev pub run_of : List (List ℕ) → Option Mode
-run_of [] = Some (mode.Run 4 false)
-run_of (option ∷ []) = if bytes_eq option (codes "--smooth") then Some (mode.Run 4 true) else None
-run_of (option ∷ other ∷ options) = None
+-- the number that a word is, of few digits
+abbrev pub word_number : List ℕ → Option ℕ
+word_number word = if nat_le (length word) MOST_DIGITS then number_of word else None
 
--- what the options behind the mode `live` say (a stand-in: none may stand there)
+-- the number that a word is, from least to most
+abbrev pub number_in : ℕ → ℕ → List ℕ → Option ℕ
+number_in least most word =
+    option_and_then (λ k. if nat_le least k && nat_le k most then Some k else None) (word_number word)
+
+-- an option that is given at most once
+abbrev pub once : {A : Type 0} → Bool → Option A → Option A
+once given option = if given then None else option
+
+-- the numbers that are given are ones that there may be
+abbrev pub MayWork : Options → Type 0
+MayWork o = IfSome o.workers IsWorkerCount × IfSome o.readers IsReaderCount × IfSome o.slots IsSlotCount
+
+abbrev pub no_options : Options
+no_options = record { workers = None; readers = None; slots = None; smooth = false }
+
+abbrev pub with_smooth : Options → Option Options
+with_smooth o = once o.smooth (Some (record o { smooth = true }))
+
+abbrev pub with_number : Options → List ℕ → List ℕ → Option Options
+with_number o option number =
+    if bytes_eq option (codes "--workers") then
+    once (is_some o.workers) (option_map (λ k. record o { workers = Some k }) (number_in 1 MOST_WORKERS number))
+    else (if bytes_eq option (codes "--readers") then
+    once (is_some o.readers) (option_map (λ k. record o { readers = Some k }) (number_in 1 MOST_READERS number))
+    else (if bytes_eq option (codes "--slots") then
+    once (is_some o.slots) (option_map (λ k. record o { slots = Some k }) (number_in LEAST_SLOTS MOST_SLOTS number))
+    else None))
+
+-- what the words say behind the options that are given already: all but `--smooth` are two words
+abbrev pub options_from : Options → List (List ℕ) → Option Options
+options_from given [] = Some given
+options_from given (option ∷ []) = if bytes_eq option (codes "--smooth") then with_smooth given else None
+options_from given (option ∷ number ∷ rest) =
+    if bytes_eq option (codes "--smooth") then option_and_then (λ o. options_from o (number ∷ rest)) (with_smooth given)
+    else option_and_then (λ o. options_from o rest) (with_number given option number)
+
+-- what the options behind the mode `run` say
+abbrev pub run_with : Options → Option Mode
+run_with o =
+    if is_some o.readers || is_some o.slots then None else Some (mode.Run (unwrap_or o.workers WORKERS) o.smooth)
+
+abbrev pub run_of : List (List ℕ) → Option Mode
+run_of words = option_and_then run_with (options_from no_options words)
+
+-- what the options behind the mode `live` say
+abbrev pub live_with : Options → Option Mode
+live_with o =
+    Some (mode.Live (unwrap_or o.workers WORKERS) (unwrap_or o.readers READERS) (unwrap_or o.slots SLOTS) o.smooth)
+
 abbrev pub live_of : List (List ℕ) → Option Mode
-live_of [] = Some (mode.Live 4 2 4 false)
-live_of (option ∷ options) = None
+live_of words = option_and_then live_with (options_from no_options words)
 
 -- the mode `check` has no options
 abbrev pub check_of : List (List ℕ) → Option Mode
@@ -40,7 +88,7 @@ check_of (option ∷ options) = None
 -- the mode that the words give, if they are in the grammar; no words mean `run`
 abbrev pub mode_of : List (List ℕ) → Option Mode
 mode_of [] = run_of []
-mode_of (word ∷ options) =
-    if bytes_eq word (codes "run") then run_of options
-    else (if bytes_eq word (codes "live") then live_of options
-    else (if bytes_eq word (codes "check") then check_of options else None))
+mode_of (word ∷ rest) =
+    if bytes_eq word (codes "run") then run_of rest
+    else (if bytes_eq word (codes "live") then live_of rest
+    else (if bytes_eq word (codes "check") then check_of rest else None))

@@ -1,18 +1,33 @@
-ghost use Rattle.std.specs.Prelude.{◌≡◌, IfSome, map, string_bytes};
-ghost use Rattle.apsp_service.specs.Words.{HasWorkers, mode_of, run_of, check_of, live_of};
-ghost use Rattle.apsp_service.specs.declared.words.Mode.TheVariants as mode;
+//! The words of the command line.
+
+ghost use Rattle.std.specs.Prelude.{◌≡◌, ◌≤◌, IfSome, map, string_bytes};
+ghost use Rattle.apsp_service.specs.Words.{HasWorkers, MayWork, mode_of, run_of, live_of, check_of, no_options, options_from, with_smooth, with_number, number_in, word_number};
+
+use script_reader::number_of;
 
 /// The most workers of a mode.
 pub const MOST_WORKERS: u32 = 64;
 
+/// The workers of a mode whose words do not say how many.
+pub const WORKERS: u32 = 4;
+
 /// The most readers of a block.
 pub const MOST_READERS: u32 = 32;
 
-/// The least slots of a block.
+/// The readers of a block where the words do not say how many.
+pub const READERS: u32 = 2;
+
+/// The least slots that versions stand in.
 pub const LEAST_SLOTS: u32 = 2;
 
-/// The most slots of a block.
+/// The most slots that versions stand in.
 pub const MOST_SLOTS: u32 = 64;
+
+/// The slots where the words do not say how many.
+pub const SLOTS: u32 = 4;
+
+/// The most digits of a number of the command line.
+const MOST_DIGITS: usize = 10;
 
 /// What the program is to do.
 #[derive(Clone, Copy, Debug, PartialEq, Eq)]
@@ -30,61 +45,163 @@ pub enum Mode {
     Check,
 }
 
+/// What the options say. A number is none where its option is not given.
+#[derive(Clone, Copy, Debug)]
+pub struct Options {
+    pub workers: Option<u32>,
+    pub readers: Option<u32>,
+    pub slots: Option<u32>,
+    pub smooth: bool,
+}
+
 /// The mode that the words of the command line give, and none where they are not in the grammar:
-/// no words, or the word `run`, with the option `--smooth` or without it, or the word `check` alone.
-/// Takes no memory.
+/// no words, or the word `run`, with the options `--workers W` and `--smooth`, or the word `live`,
+/// with these and `--readers R` and `--slots K`, or the word `check` alone. Options stand in any order, each at most once. Takes no memory.
 pub fn read_words(words: &[String]) -> Option<Mode>
     ensures mode { result ≡ mode_of (map string_bytes words.now) }
     ensures workers { IfSome result HasWorkers }
 {
     match words {
         [] => run_mode(words),
-        [mode, options @ ..] if mode.as_str() == "run" => run_mode(options),
-        [mode, options @ ..] if mode.as_str() == "live" => live_mode(options),
-        [mode, options @ ..] if mode.as_str() == "check" => check_mode(options),
+        [mode, rest @ ..] if mode.as_str() == "run" => run_mode(rest),
+        [mode, rest @ ..] if mode.as_str() == "live" => live_mode(rest),
+        [mode, rest @ ..] if mode.as_str() == "check" => check_mode(rest),
         _ => None,
     }
 }
 
 /// The mode `run` with its options.
-fn run_mode(options: &[String]) -> Option<Mode>
-    ensures { result ≡ run_of (map string_bytes options.now) }
+fn run_mode(words: &[String]) -> Option<Mode>
+    ensures mode { result ≡ run_of (map string_bytes words.now) }
+    ensures workers { IfSome result HasWorkers }
 {
-    match options {
-        [] => Some(run(false)),
-        [option] if option.as_str() == "--smooth" => Some(run(true)),
-        _ => None,
+    let options = read_options(Options::new(), words)?;
+    if options.readers.is_some() || options.slots.is_some() {
+        return None;
     }
+    Some(Mode::Run {
+        workers: options.workers.unwrap_or(WORKERS),
+        smooth: options.smooth,
+    })
 }
 
-/// The mode `live`, with no options yet.
-fn live_mode(options: &[String]) -> Option<Mode>
-    ensures { result ≡ live_of (map string_bytes options.now) }
+/// The mode `live` with its options.
+fn live_mode(words: &[String]) -> Option<Mode>
+    ensures mode { result ≡ live_of (map string_bytes words.now) }
+    ensures workers { IfSome result HasWorkers }
 {
-    match options {
-        [] => Some(Mode::Live {
-            workers: 4,
-            readers: 2,
-            slots: 4,
-            smooth: false,
-        }),
-        _ => None,
-    }
+    let options = read_options(Options::new(), words)?;
+    Some(Mode::Live {
+        workers: options.workers.unwrap_or(WORKERS),
+        readers: options.readers.unwrap_or(READERS),
+        slots: options.slots.unwrap_or(SLOTS),
+        smooth: options.smooth,
+    })
 }
 
 /// The mode `check`, which has no options.
-fn check_mode(options: &[String]) -> Option<Mode>
-    ensures { result ≡ check_of (map string_bytes options.now) }
+fn check_mode(words: &[String]) -> Option<Mode>
+    ensures { result ≡ check_of (map string_bytes words.now) }
 {
-    match options {
-        [] => Some(Mode::Check),
+    if words.is_empty() {
+        Some(Mode::Check)
+    } else {
+        None
+    }
+}
+
+/// What the words say behind what was given before them.
+fn read_options(given: Options, words: &[String]) -> Option<Options>
+    ensures given { result ≡ options_from given (map string_bytes words.now) }
+    ensures workers { MayWork given → IfSome result MayWork }
+{
+    match words {
+        [] => Some(given),
+        [option, rest @ ..] if option.as_str() == "--smooth" => {
+            read_options(given.with_smooth()?, rest)
+        }
+        [option, number, rest @ ..] => {
+            read_options(given.with_number(option.as_str(), number.as_str())?, rest)
+        }
         _ => None,
     }
 }
 
-/// The mode `run` with as many workers as it has where the words do not say.
-fn run(smooth: bool) -> Mode
-    ensures { result ≡ mode.Run 4 smooth }
+impl Options {
+    /// Nothing is given.
+    fn new() -> Options
+        ensures { result ≡ no_options }
+    {
+        Options {
+            workers: None,
+            readers: None,
+            slots: None,
+            smooth: false,
+        }
+    }
+
+    /// With smoothing, unless that is given already.
+    fn with_smooth(self) -> Option<Options>
+        ensures given { result ≡ with_smooth self }
+        ensures workers { MayWork self → IfSome result MayWork }
+    {
+        if self.smooth {
+            return None;
+        }
+        Some(Options {
+            smooth: true,
+            ..self
+        })
+    }
+
+    /// With the number of an option, unless that is given already.
+    fn with_number(self, option: &str, number: &str) -> Option<Options>
+        ensures given { result ≡ with_number self option.now number.now }
+        ensures workers { MayWork self → IfSome result MayWork }
+    {
+        if option == "--workers" && self.workers.is_none() {
+            let workers = number_in(1, MOST_WORKERS, number)?;
+            return Some(Options {
+                workers: Some(workers),
+                ..self
+            });
+        }
+        if option == "--readers" && self.readers.is_none() {
+            let readers = number_in(1, MOST_READERS, number)?;
+            return Some(Options {
+                readers: Some(readers),
+                ..self
+            });
+        }
+        if option == "--slots" && self.slots.is_none() {
+            let slots = number_in(LEAST_SLOTS, MOST_SLOTS, number)?;
+            return Some(Options {
+                slots: Some(slots),
+                ..self
+            });
+        }
+        None
+    }
+}
+
+/// The number that a word is, from least to most.
+fn number_in(least: u32, most: u32, word: &str) -> Option<u32>
+    ensures number { result ≡ number_in least most word.now }
+    ensures range { IfSome result (λ k. (least ≤ k) × (k ≤ most)) }
 {
-    Mode::Run { workers: 4, smooth }
+    let number = word_number(word)?;
+    if number < u64::from(least) || u64::from(most) < number {
+        return None;
+    }
+    Some(number as u32)
+}
+
+/// The number that a word is, of few digits.
+fn word_number(word: &str) -> Option<u64>
+    ensures { result ≡ word_number word.now }
+{
+    if word.len() > MOST_DIGITS {
+        return None;
+    }
+    number_of(word.as_bytes())
 }

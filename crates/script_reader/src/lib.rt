@@ -19,6 +19,7 @@ use commands::{command_of, is_comment, misplaced};
 pub use cutter::{Cut, LineCutter};
 use graph_store::Star;
 use lines::line_with;
+pub use numbers::number_of;
 use scan::Words;
 use std::alloc::Global;
 use std::marker::Model;
