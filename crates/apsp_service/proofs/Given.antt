@@ -167,6 +167,9 @@ line_replied (Ok u) s content l old new reading none other h =
     let G : Result Line Refusal → Type 0 = λ read. HasAnswer s read new in
     subst G (sym reading) (subst F reply_is (as_line_reply s l h.0 other h.1))
 
+pub ok_replied : (s : State) (content : List ℕ) (l : Line) (old new : List ℕ) → line_of (context_of s) content ≡ Ok l → old ≡ [] → (l ≡ line.End → ⊥) → GrowsBy (HasReply s.vertices s.smooth s.commands l) old new → LineHasReply s content new
+ok_replied s content l old new reading none other h = line_replied {E = Unit {0}} (Ok tt) s content l old new reading none other h
+
 pub text_gives : (r : Result (Unit {0}) Stop) (old new : Option (List ℕ)) (before now : ℕ) (s : State) (content text : List ℕ) → IsLawful s → LineHasReply s content text → TextGiven r old new before now text → GivingEnds r old new before now s (content ∷ [])
 text_gives (Ok u) old new before now s content text lawful reply given = (text, one_reply s content text reply, given)
 text_gives (Err stop.Source) old new before now s content text lawful reply given = given

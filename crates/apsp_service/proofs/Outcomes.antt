@@ -1,6 +1,6 @@
 -- What a run's end says of its status.
 use Rattle.std.proofs.Common.{◌≡◌, ◌⊎◌, ℕ, ◌+◌, ◌<◌, ◌≤◌, Bool, true, false, List, [], ◌++◌, length, take, refl, sym, ap, subst, ◌∙◌, arith, inl, inr, append-nil, length-append}
-use Rattle.std.specs.Prelude.{Option, Some, None, Result, Ok, Err, IfSome, if◌then◌else◌}
+use Rattle.std.specs.Prelude.{◌↔◌, Option, Some, None, Result, Ok, Err, IfSome, if◌then◌else◌}
 use Rattle.std.specs.Io.KnownBytes.{Consumes, IsAtEnd, Appends}
 use Rattle.apsp_io.specs.Streams.{Rose}
 use Rattle.script_reader.specs.Input.{lines_of, whole_lines}
@@ -9,9 +9,9 @@ use Rattle.apsp_service.specs.declared.words.Mode.TheVariants as mode
 use Rattle.apsp_service.specs.declared.stop.Stop.{Stop}
 use Rattle.apsp_service.specs.declared.stop.Stop.TheVariants as stop
 use Rattle.apsp_service.specs.declared.run.TheConstants.{MOST_INPUT}
-use Rattle.apsp_service.specs.Session.{State, Session, HasSession, HasWholeReplies, HaveReplies, opening, has_refused, after_lines, status_of}
+use Rattle.apsp_service.specs.Session.{State, Session, HasSession, HasWholeReplies, HaveReplies, opening, has_blocks, has_refused, after_lines, status_of}
 use Rattle.apsp_service.specs.Running.{RunEnds, RanToEnd, StoppedAfter, StoppedAmong}
-use Rattle.apsp_service.specs.Outcome.{status_after, IsCheck, IsAnswered, IsStoppedEarly, IsCutShort, TookMoreThan, IsComplete, ReadToEnd, SaysRefused, IsOutcome}
+use Rattle.apsp_service.specs.Outcome.{status_after, IsStatus, IsCheck, IsAnswered, IsStoppedEarly, IsCutShort, TookMoreThan, IsComplete, ReadToEnd, SaysRefused, IsOutcome}
 use Rattle.apsp_service.specs.Ending.{IsShort, EndsAs}
 use Rattle.apsp_service.proofs.Checked.{one_checked}
 use Rattle.apsp_service.proofs.Lines.{whole_lines_is}
@@ -256,3 +256,10 @@ pub of_words : (P : Mode → Type 0) (read given : Option Mode) (m : Mode) → r
 of_words P read given m is same h =
     let F : Option Mode → Type 0 = λ o. IfSome o P in
     subst F (sym is ∙ same) h
+
+-- the outcome of the mode `live`
+pub live_outcome : (workers readers slots : ℕ) (smooth : Bool) (start : State) (left left_now held held_now : Option (List ℕ)) (before now sink_before sink_now status : ℕ) (r : Result Bool Stop) → start ≡ opening (Some readers) smooth → status ≡ status_after r → RunEnds start r left left_now held held_now before now sink_before sink_now → IsOutcome (mode.Live workers readers slots smooth) left left_now held held_now before now sink_before sink_now status
+live_outcome workers readers slots smooth start left left_now held held_now before now sink_before sink_now status r same is h =
+    let m = mode.Live workers readers slots smooth in
+    let F : State → Type 0 = λ s. RunEnds s r left left_now held held_now before now sink_before sink_now in
+    outcome_at m left left_now held held_now before now sink_before sink_now status r is (run_ends m (opening (Some readers) smooth) (live_over workers readers slots smooth) left left_now held held_now before now sink_before sink_now r (subst F same h))

@@ -39,7 +39,8 @@ impl OpenBlock {
     /// A block behind this graph, which has this number.
     pub fn new(alloc: Global, start: &Graph, lo: u64) -> Result<OpenBlock, AllocError>
         requires few { lo < 2 ^ 40 }
-        ensures { IfOk result (λ b. b ≡ record { plan = record { start = start.now; lo = lo; stars = [] }; asks = [] }) }
+        ensures { IfOk result (λ b.
+            b ≡ record { plan = record { start = start.now; lo = lo; stars = [] }; asks = [] }) }
     {
         let plan = Plan::new(alloc, start, lo).map_err(|_| AllocError)?;
         let mut last = Graph::new(alloc, start.vertices()).map_err(|_| AllocError)?;
@@ -88,9 +89,13 @@ impl OpenBlock {
         requires few { hi_of self.old.plan < 2 ^ 40 }
         ensures { OnOk result (self.new ≡ record self.old { plan = with_star self.old.plan star }) }
     {
-        self.plan.add(star).map_err(|_| AllocError)?;
-        self.last.apply(self.plan.star(self.plan.hi()));
-        Ok(())
+        match self.plan.add(star) {
+            Ok(()) => {
+                self.last.apply(self.plan.star(self.plan.hi()));
+                Ok(())
+            }
+            Err(_) => Err(AllocError),
+        }
     }
 
     /// One update more: u has the star that it has after the block's updates, with the edge to v of
@@ -101,7 +106,8 @@ impl OpenBlock {
         requires apart { u ≢ v }
         requires weight { ForSome weight IsWeight }
         requires few { hi_of self.old.plan < 2 ^ 40 }
-        ensures { OnOk result (self.new ≡ record self.old { plan = with_star self.old.plan (star_with (last_graph self.old.plan) u v weight) }) }
+        ensures { OnOk result (self.new ≡ record self.old {
+            plan = with_star self.old.plan (star_with (last_graph self.old.plan) u v weight) }) }
     {
         let mut star = Star::new(self.alloc, self.last.vertices(), u).map_err(|_| AllocError)?;
         self.last.star_into(u, &mut star);
@@ -111,7 +117,8 @@ impl OpenBlock {
 
     /// One question more.
     pub fn ask(&mut self, x: u32, y: u32, since: u32) -> Result<(), AllocError>
-        ensures { OnOk result (self.new ≡ record self.old { asks = self.old.asks ++ record { x = x; y = y; since = since } ∷ [] }) }
+        ensures { OnOk result (self.new ≡ record self.old {
+            asks = self.old.asks ++ record { x = x; y = y; since = since } ∷ [] }) }
     {
         self.asks.push(x, y, since).map_err(|_| AllocError)
     }

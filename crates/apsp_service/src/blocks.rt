@@ -78,7 +78,9 @@ impl<'a, F: Fn(&mut Engine, &Plan, &Asks) -> Result<BlockAnswers, Memory>> Block
     for LiveBlocks<'a, F> {
     ghost readers = { λ b. Some b.readers };
 
-    ghost ready = { λ b. (e : _) (p : _) (a : _) → CanRun e.now p.now a.now → F.pre b.run.now e p a × ((r : _) (e' : _) → F.post b.run.now e p a r e' → HasRun b.readers e.now p.now a.now r e'.now) };
+    ghost ready = { λ b. (e : _) (p : _) (a : _) → CanRun e.now p.now a.now
+        → F.pre b.run.now e p a
+        × ((r : _) (e' : _) → F.post b.run.now e p a r e' → HasRun b.readers e.now p.now a.now r e'.now) };
 
     fn readers(&self) -> Option<u32> {
         Some(self.readers)

@@ -103,7 +103,8 @@ impl<'a, R: Threads + Sync, G: Gate, B: Blocks> Crew<'a, R, G, B> {
         requires live { IsSome (B.readers self.now.blocks.now) }
         requires ready { B.ready self.now.blocks.now }
         requires can { CanRun engine.old block.now.plan block.now.asks }
-        ensures ran { ForSome (B.readers self.now.blocks.now) (λ r. HasRun r engine.old block.now.plan block.now.asks result engine.new) }
+        ensures ran { ForSome (B.readers self.now.blocks.now) (λ r.
+            HasRun r engine.old block.now.plan block.now.asks result engine.new) }
         ensures opening { engine.new.opening ≡ engine.old.opening }
     {
         match self.blocks.run_block(engine, block.plan(), block.asks()) {

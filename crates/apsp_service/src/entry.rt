@@ -1,4 +1,4 @@
-ghost use Rattle.std.specs.Prelude.{◌≡◌, ◌⊎◌, ◌↔◌, ◌+◌, ◌≤◌, List, [], ℕ, length, map, None, IfSome, IsSome, false, true, string_bytes};
+ghost use Rattle.std.specs.Prelude.{◌≡◌, ◌⊎◌, ◌↔◌, ◌+◌, ◌≤◌, List, [], ℕ, length, map, None, IfSome, IsSome, false, string_bytes};
 ghost use Rattle.block_run.specs.Run.{CanRun, HasRun};
 ghost use Rattle.apsp_service.specs.Words.{HasWorkers, IsWorkerCount, IsReaderCount, IsSlotCount, mode_of};
 ghost use Rattle.std.specs.Io.KnownBytes.{Appends};
@@ -23,9 +23,9 @@ use std::marker::Sync;
 use std::sync::Wait;
 use std::thread::Threads;
 
-/// Runs a mode. A script's lines are taken from the source, and the sink is given a reply to each line
-/// that has one, as soon as the line is whole; the mode that checks takes the whole input and gives one
-/// line. It waits for nobody and returns.
+/// Runs a mode without blocks. A script's lines are taken from the source, and the sink is given a reply
+/// to each line that has one, as soon as the line is whole; the mode that checks takes the whole input
+/// and gives one line. It waits for nobody and returns.
 ///
 /// The status is 0 where the input was read to its end and nothing was refused, and 1 where something
 /// was. It is 3 or 4 where the source or the sink failed, 5 where memory ran out, and 6 where the
@@ -77,6 +77,7 @@ fn run_as<S: Source, K: Sink, G: Gate, R: Threads + Sync>(
     gate: &G,
 ) -> Result<bool, Stop>
     requires workers { HasWorkers mode.now }
+    requires no_blocks { has_blocks mode.now ≡ false }
     ensures ends { EndsAs mode.now result (S.left source.old) (S.left source.new) (K.held sink.old) (K.held sink.new)
         (S.faults source.old) (S.faults source.new) (K.faults sink.old) (K.faults sink.new) }
     ensures source_later { S.faults source.old ≤ S.faults source.new }
@@ -93,61 +94,9 @@ fn run_as<S: Source, K: Sink, G: Gate, R: Threads + Sync>(
     }
 }
 
-/// Runs a mode with blocks, and says whether something was refused.
-fn live_as<S: Source, K: Sink, G: Gate, R: Threads + Wait + Sync>(
-    rt: &R,
-    alloc: Global,
-    mode: &Mode,
-    source: &mut S,
-    sink: &mut K,
-    gate: &G,
-) -> Result<bool, Stop>
-    requires workers { HasWorkers mode.now }
-    requires blocks { has_blocks mode.now ≡ true }
-    ensures ends { EndsAs mode.now result (S.left source.old) (S.left source.new) (K.held sink.old) (K.held sink.new)
-        (S.faults source.old) (S.faults source.new) (K.faults sink.old) (K.faults sink.new) }
-    ensures source_later { S.faults source.old ≤ S.faults source.new }
-    ensures sink_later { K.faults sink.old ≤ K.faults sink.new }
-{
-    match mode {
-        Mode::Live {
-            workers,
-            readers,
-            slots,
-            smooth,
-        } => {
-            let (workers, readers, slots) = (*workers, *readers, *slots);
-            let run_one = |engine: &mut Engine, plan: &Plan, asks: &Asks| -> Result<
-                BlockAnswers,
-                Memory,
-            >
-                requires workers { IsWorkerCount workers }
-                requires readers { IsReaderCount readers }
-                requires slots { IsSlotCount slots }
-                requires can { CanRun engine.old plan.now asks.now }
-                ensures { HasRun readers engine.old plan.now asks.now result engine.new }
-            { live_block(rt, alloc, engine, plan, asks, readers, slots, workers, gate) };
-            let blocks = LiveBlocks::new(readers, &run_one);
-            let crew = Crew::new(rt, workers, gate, &blocks);
-            run(alloc, &crew, *smooth, source, sink)
-        }
-        Mode::Run { .. } => unreachable!(),
-        Mode::Check => unreachable!(),
-    }
-}
-
-/// Whether the mode has blocks.
-fn has_blocks(mode: &Mode) -> bool
-    ensures { result ≡ has_blocks mode.now }
-{
-    match mode {
-        Mode::Run { .. } | Mode::Check => false,
-        Mode::Live { .. } => true,
-    }
-}
-
 /// All that the program does: runs the mode that the words of the command line give. The status is 2
-/// where they give none, and nothing is read or written then; otherwise it is that of the mode.
+/// where they give none, and nothing is read or written then; otherwise it is that of the mode. In the
+/// mode with blocks it may wait: a block's readers wait for its updates.
 pub fn top<S: Source, K: Sink, G: Gate, R: Threads + Wait + Sync>(
     rt: &R,
     alloc: Global,
@@ -191,7 +140,26 @@ pub fn top<S: Source, K: Sink, G: Gate, R: Threads + Wait + Sync>(
     ensures sink_later { K.faults sink.old ≤ K.faults sink.new }
 {
     match read_words(words) {
-        Some(mode) if has_blocks(&mode) => status(live_as(rt, alloc, &mode, source, sink, gate)),
+        Some(Mode::Live {
+            workers,
+            readers,
+            slots,
+            smooth,
+        }) => {
+            let run_one = |engine: &mut Engine, plan: &Plan, asks: &Asks| -> Result<
+                BlockAnswers,
+                Memory,
+            >
+                requires workers { IsWorkerCount workers }
+                requires readers { IsReaderCount readers }
+                requires slots { IsSlotCount slots }
+                requires can { CanRun engine.old plan.now asks.now }
+                ensures { HasRun readers engine.old plan.now asks.now result engine.new }
+            { live_block(rt, alloc, engine, plan, asks, readers, slots, workers, gate) };
+            let blocks = LiveBlocks::new(readers, &run_one);
+            let crew = Crew::new(rt, workers, gate, &blocks);
+            status(run(alloc, &crew, smooth, source, sink))
+        }
         Some(mode) => script(rt, alloc, &mode, source, sink, gate),
         None => 2,
     }

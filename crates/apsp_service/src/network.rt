@@ -136,7 +136,8 @@ impl Network {
         requires live { IsSome (B.readers crew.now.blocks.now) }
         requires ready { B.ready crew.now.blocks.now }
         requires can { CanRun self.old block.now.plan block.now.asks }
-        ensures { ForSome (B.readers crew.now.blocks.now) (λ r. HasRun r self.old block.now.plan block.now.asks result self.new) }
+        ensures { ForSome (B.readers crew.now.blocks.now) (λ r.
+            HasRun r self.old block.now.plan block.now.asks result self.new) }
     {
         crew.run_block(&mut self.engine, block)
     }

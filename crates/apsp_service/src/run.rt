@@ -30,7 +30,9 @@ pub fn run<S: Source, K: Sink, R: Threads + Sync, G: Gate, B: Blocks>(
     sink: &mut K,
 ) -> Result<bool, Stop>
     requires runs { B.ready crew.now.blocks.now }
-    ensures ends { RunEnds (opening (B.readers crew.now.blocks.now) smooth) result (S.left source.old) (S.left source.new) (K.held sink.old) (K.held sink.new) (S.faults source.old) (S.faults source.new) (K.faults sink.old) (K.faults sink.new) }
+    ensures ends { RunEnds (opening (B.readers crew.now.blocks.now) smooth) result
+        (S.left source.old) (S.left source.new) (K.held sink.old) (K.held sink.new)
+        (S.faults source.old) (S.faults source.new) (K.faults sink.old) (K.faults sink.new) }
     ensures source_later { S.faults source.old ≤ S.faults source.new }
     ensures sink_later { K.faults sink.old ≤ K.faults sink.new }
 {
@@ -51,7 +53,9 @@ fn answer_all<S: Source, K: Sink, R: Threads + Sync, G: Gate, B: Blocks>(
     requires blocks { session.old.readers ≡ B.readers crew.now.blocks.now }
     requires runs { B.ready crew.now.blocks.now }
     requires stands { IsAt session.old (opening session.old.readers session.old.smooth) [] }
-    ensures ends { AllEnds (opening session.old.readers session.old.smooth) result session.new (S.left source.old) (S.left source.new) (K.held sink.old) (K.held sink.new) (S.faults source.old) (S.faults source.new) (K.faults sink.old) (K.faults sink.new) }
+    ensures ends { AllEnds (opening session.old.readers session.old.smooth) result session.new
+        (S.left source.old) (S.left source.new) (K.held sink.old) (K.held sink.new)
+        (S.faults source.old) (S.faults source.new) (K.faults sink.old) (K.faults sink.new) }
     ensures readers { session.new.readers ≡ session.old.readers }
     ensures lines { OnOk result (session.new.lines ≤ MOST_INPUT) }
     ensures source_later { S.faults source.old ≤ S.faults source.new }
@@ -85,7 +89,10 @@ fn answer_piece<S: Source, K: Sink, R: Threads + Sync, G: Gate, B: Blocks>(
     requires stands { IsSomewhere session.old }
     requires opened { session.old.cutter.whole ≡ false }
     requires room { length buffer.old ≡ PIECE }
-    ensures ends { (start : State) (left held : Option (List ℕ)) (bytes : List ℕ) → IsLawful start → SoFar start session.old left (S.left source.old) held (K.held sink.old) bytes → length bytes ≡ taken → PieceEnds start result session.new left (S.left source.new) held (K.held sink.new) (S.faults source.old) (S.faults source.new) (K.faults sink.old) (K.faults sink.new) bytes }
+    ensures ends { (start : State) (left held : Option (List ℕ)) (bytes : List ℕ) → IsLawful start
+        → SoFar start session.old left (S.left source.old) held (K.held sink.old) bytes → length bytes ≡ taken
+        → PieceEnds start result session.new left (S.left source.new) held (K.held sink.new)
+        (S.faults source.old) (S.faults source.new) (K.faults sink.old) (K.faults sink.new) bytes }
     ensures few { IfOk result (λ count. taken + count ≤ MOST_INPUT) }
     ensures readers { session.new.readers ≡ session.old.readers }
     ensures lines { IfOk result (λ count. session.new.lines ≤ taken + count) }

@@ -130,10 +130,12 @@ impl Session {
         requires goes_on { line ≡ Line.End → ⊥ }
         requires ready { IsReady self.old.network }
         requires stands { (s : State) × HasInside self.old.network self.old.block s × (s.lines < 2 ^ 40) }
-        ensures stands { (s : State) → HasInside self.old.network self.old.block s → self.old.smooth ≡ s.smooth → self.old.readers ≡ s.readers
+        ensures stands { (s : State) → HasInside self.old.network self.old.block s
+            → self.old.smooth ≡ s.smooth → self.old.readers ≡ s.readers
             → OnOk result (HasInside self.new.network self.new.block (accepted (counted s) line)) }
         ensures reply { (s : State) → HasInside self.old.network self.old.block s
-            → OnOk result (GrowsBy (HasReply s.vertices s.smooth s.commands line) (string_bytes self.old.text) (string_bytes self.new.text)) }
+            → OnOk result (GrowsBy (HasReply s.vertices s.smooth s.commands line)
+                (string_bytes self.old.text) (string_bytes self.new.text)) }
         ensures cutter { self.new.cutter ≡ self.old.cutter }
         ensures smooth { self.new.smooth ≡ self.old.smooth }
         ensures readers { self.new.readers ≡ self.old.readers }
@@ -168,9 +170,12 @@ impl Session {
         requires blocks { self.old.readers ≡ B.readers crew.now.blocks.now }
         requires runs { B.ready crew.now.blocks.now }
         requires ready { IsReady self.old.network }
-        requires stands { (s : State) × HasInside self.old.network self.old.block s × (s.readers ≡ self.old.readers) × (s.lines < 2 ^ 40) }
-        ensures stands { (s : State) → HasInside self.old.network self.old.block s → IfOk result (λ _. HasInside self.new.network self.new.block (accepted (counted s) Line.End)) }
-        ensures reply { (s : State) → HasInside self.old.network self.old.block s → IfOk result (λ answers. HasBlockReply self.old.readers s.block (flat_map answer_text answers)) }
+        requires stands { (s : State) × HasInside self.old.network self.old.block s
+            × (s.readers ≡ self.old.readers) × (s.lines < 2 ^ 40) }
+        ensures stands { (s : State) → HasInside self.old.network self.old.block s
+            → IfOk result (λ _. HasInside self.new.network self.new.block (accepted (counted s) Line.End)) }
+        ensures reply { (s : State) → HasInside self.old.network self.old.block s
+            → IfOk result (λ answers. HasBlockReply self.old.readers s.block (flat_map answer_text answers)) }
         ensures cutter { self.new.cutter ≡ self.old.cutter }
         ensures smooth { self.new.smooth ≡ self.old.smooth }
         ensures readers { self.new.readers ≡ self.old.readers }
@@ -247,7 +252,7 @@ impl Session {
         match self.answer(crew)? {
             Reply::Text => give(sink, self.text.as_str()),
             Reply::Certificate => self.give_certificate(sink),
-            Reply::Answers(answers) => give_answers(sink, &mut self.text, answers.answers()),
+            Reply::Answers(given) => give_answers(sink, &mut self.text, given.answers()),
         }
     }
 
@@ -357,7 +362,8 @@ impl Session {
     /// Gives the reply to the end of the input, where a block is open there.
     pub fn finish<K: Sink>(&mut self, sink: &mut K) -> Result<(), Stop>
         requires few { self.old.lines + 1 < 2 ^ 32 }
-        ensures gives { (s : State) → HasState self.old s → LinesGiven result (K.held sink.old) (K.held sink.new) (K.faults sink.old) (K.faults sink.new) (ending_of s) }
+        ensures gives { (s : State) → HasState self.old s
+            → LinesGiven result (K.held sink.old) (K.held sink.new) (K.faults sink.old) (K.faults sink.new) (ending_of s) }
         ensures kept { (s : State) → HasState self.old s → HasState self.new s }
         ensures later { K.faults sink.old ≤ K.faults sink.new }
     {
@@ -420,8 +426,11 @@ fn obey_in<R: Threads + Sync, G: Gate, B: Blocks>(
     requires no_begin { line ≡ Line.Block → ⊥ }
     requires no_end { line ≡ Line.End → ⊥ }
     requires ready { IsReady (Some network.old) }
-    ensures stands { (s : State) → HasInside (Some network.old) None s → OnOk result (HasInside (Some network.new) None (accepted (counted s) line)) }
-    ensures reply { (s : State) → HasInside (Some network.old) None s → OnOk result (GrowsBy (HasReply s.vertices s.smooth s.commands line) (string_bytes text.old) (string_bytes text.new)) }
+    ensures stands { (s : State) → HasInside (Some network.old) None s
+        → OnOk result (HasInside (Some network.new) None (accepted (counted s) line)) }
+    ensures reply { (s : State) → HasInside (Some network.old) None s
+        → OnOk result (GrowsBy (HasReply s.vertices s.smooth s.commands line)
+            (string_bytes text.old) (string_bytes text.new)) }
 {
     match line {
         Line::Star(star) => network.apply(crew, &star),
@@ -443,7 +452,8 @@ fn obey_in<R: Threads + Sync, G: Gate, B: Blocks>(
 
 /// Does what a line asks for in a block other than its end. There it has no reply.
 fn obey_in_block(block: &mut OpenBlock, line: Line) -> Result<(), AllocError>
-    requires fits { (readers : Option ℕ) × Fits (context_at (last_graph block.old.plan).vertices readers (Some block.old)) line }
+    requires fits { (readers : Option ℕ)
+        × Fits (context_at (last_graph block.old.plan).vertices readers (Some block.old)) line }
     requires few { hi_of block.old.plan < 2 ^ 40 }
     requires goes_on { line ≡ Line.End → ⊥ }
     ensures { (e : Seen) (s : State) → HasInside (Some e) (Some block.old) s

@@ -56,7 +56,8 @@ pub struct Options {
 
 /// The mode that the words of the command line give, and none where they are not in the grammar:
 /// no words, or the word `run`, with the options `--workers W` and `--smooth`, or the word `live`,
-/// with these and `--readers R` and `--slots K`, or the word `check` alone. Options stand in any order, each at most once. Takes no memory.
+/// with these and `--readers R` and `--slots K`, or the word `check` alone. Options stand in any order,
+/// each at most once. Takes no memory.
 pub fn read_words(words: &[String]) -> Option<Mode>
     ensures mode { result ≡ mode_of (map string_bytes words.now) }
     ensures workers { IfSome result HasWorkers }
