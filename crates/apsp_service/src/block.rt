@@ -107,7 +107,8 @@ impl OpenBlock {
         requires weight { ForSome weight IsWeight }
         requires few { hi_of self.old.plan < 2 ^ 40 }
         ensures { OnOk result (self.new ≡ record self.old {
-            plan = with_star self.old.plan (star_with (last_graph self.old.plan) u v weight) }) }
+          plan = with_star self.old.plan (star_with (last_graph self.old.plan) u v weight);
+        }) }
     {
         let mut star = Star::new(self.alloc, self.last.vertices(), u).map_err(|_| AllocError)?;
         self.last.star_into(u, &mut star);
@@ -118,7 +119,8 @@ impl OpenBlock {
     /// One question more.
     pub fn ask(&mut self, x: u32, y: u32, since: u32) -> Result<(), AllocError>
         ensures { OnOk result (self.new ≡ record self.old {
-            asks = self.old.asks ++ record { x = x; y = y; since = since } ∷ [] }) }
+          asks = self.old.asks ++ record { x = x; y = y; since = since } ∷ [];
+        }) }
     {
         self.asks.push(x, y, since).map_err(|_| AllocError)
     }

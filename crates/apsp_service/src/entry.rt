@@ -140,12 +140,14 @@ pub fn top<S: Source, K: Sink, G: Gate, R: Threads + Wait + Sync>(
     ensures sink_later { K.faults sink.old ≤ K.faults sink.new }
 {
     match read_words(words) {
-        Some(Mode::Live {
-            workers,
-            readers,
-            slots,
-            smooth,
-        }) => {
+        Some(
+            Mode::Live {
+                workers,
+                readers,
+                slots,
+                smooth,
+            },
+        ) => {
             let run_one = |engine: &mut Engine, plan: &Plan, asks: &Asks| -> Result<
                 BlockAnswers,
                 Memory,

@@ -135,7 +135,7 @@ impl Session {
             → OnOk result (HasInside self.new.network self.new.block (accepted (counted s) line)) }
         ensures reply { (s : State) → HasInside self.old.network self.old.block s
             → OnOk result (GrowsBy (HasReply s.vertices s.smooth s.commands line)
-                (string_bytes self.old.text) (string_bytes self.new.text)) }
+            (string_bytes self.old.text) (string_bytes self.new.text)) }
         ensures cutter { self.new.cutter ≡ self.old.cutter }
         ensures smooth { self.new.smooth ≡ self.old.smooth }
         ensures readers { self.new.readers ≡ self.old.readers }
@@ -430,7 +430,7 @@ fn obey_in<R: Threads + Sync, G: Gate, B: Blocks>(
         → OnOk result (HasInside (Some network.new) None (accepted (counted s) line)) }
     ensures reply { (s : State) → HasInside (Some network.old) None s
         → OnOk result (GrowsBy (HasReply s.vertices s.smooth s.commands line)
-            (string_bytes text.old) (string_bytes text.new)) }
+        (string_bytes text.old) (string_bytes text.new)) }
 {
     match line {
         Line::Star(star) => network.apply(crew, &star),

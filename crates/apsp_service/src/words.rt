@@ -33,7 +33,10 @@ const MOST_DIGITS: usize = 10;
 #[derive(Clone, Copy, Debug, PartialEq, Eq)]
 pub enum Mode {
     /// Runs a script, with 1 to `MOST_WORKERS` workers and with or without smoothing.
-    Run { workers: u32, smooth: bool },
+    Run {
+        workers: u32,
+        smooth: bool,
+    },
     /// The same with blocks, whose questions so many readers answer from so many slots.
     Live {
         workers: u32,
