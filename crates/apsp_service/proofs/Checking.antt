@@ -129,4 +129,4 @@ check_given (Err y) e left left_now held held_now before now sink_before sink_no
 
 pub checked_to_end : (left left_now held held_now : Option (List ℕ)) (before now sink_before sink_now : ℕ) (bytes text : List ℕ) (refused : Bool) → TookAll left left_now bytes → IsChecked bytes text (status_after (Ok refused)) → Appends held held_now text → EndsAs mode.Check (Ok refused) left left_now held held_now before now sink_before sink_now
 checked_to_end left left_now held held_now before now sink_before sink_now bytes text refused all checked given =
-    (record { bytes = bytes; text = text; taken = all.taken; last = all.last; given = given; session = checked }, all.few)
+    (record { bytes = bytes; text = text; taken = all.taken; last = λ _. all.last; unread = λ load. absurd load; given = given; session = checked }, all.few)

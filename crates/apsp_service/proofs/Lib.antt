@@ -12,3 +12,6 @@ pub mod Taken
 pub mod Ran
 pub mod Outcomes
 pub mod Checking
+pub mod Loads
+pub mod LoadEnds
+pub mod Options

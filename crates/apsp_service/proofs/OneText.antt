@@ -29,6 +29,7 @@ use Rattle.apsp_service.specs.Blocks.{Block}
 use Rattle.apsp_service.specs.Lawful.{IsLawful}
 use Rattle.apsp_service.proofs.Lawful.{opening_lawful}
 use Rattle.apsp_service.proofs.Replied.{replies_exist}
+use Rattle.apsp_service.proofs.Loads.{load_exists, one_load}
 
 -- ---- distances and walks
 
@@ -194,6 +195,9 @@ one_text (mode.Live workers readers slots smooth) bytes none = cc
 one_text mode.Check bytes none =
     let c = checked_exists bytes in
     record { text = c.0; status = c.1; session = c.2; only = λ other ended h. one_checked bytes other c.0 ended c.1 h c.2 }
+one_text (mode.Load n seed workers) bytes none =
+    let c = load_exists n seed in
+    record { text = c.0; status = 0; session = (c.1, refl); only = λ other ended h. (one_load n seed other c.0 h.0 c.1, h.1) }
 
 pub one_status : (m : Mode) (bytes : List ℕ) → HasOneStatus m bytes
 one_status (mode.Run workers smooth) bytes =
@@ -205,3 +209,6 @@ one_status (mode.Live workers readers slots smooth) bytes =
 one_status mode.Check bytes =
     let c = checked_exists bytes in
     record { text = c.0; status = c.1; session = c.2; only = λ other ended h. (one_checked bytes other c.0 ended c.1 h c.2).1 }
+one_status (mode.Load n seed workers) bytes =
+    let c = load_exists n seed in
+    record { text = c.0; status = 0; session = (c.1, refl); only = λ other ended h. h.1 }

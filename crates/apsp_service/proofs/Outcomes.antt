@@ -11,7 +11,7 @@ use Rattle.apsp_service.specs.declared.stop.Stop.TheVariants as stop
 use Rattle.apsp_service.specs.declared.run.TheConstants.{MOST_INPUT}
 use Rattle.apsp_service.specs.Session.{State, Session, HasSession, HasWholeReplies, HaveReplies, opening, has_blocks, has_refused, after_lines, status_of}
 use Rattle.apsp_service.specs.Running.{RunEnds, RanToEnd, StoppedAfter, StoppedAmong}
-use Rattle.apsp_service.specs.Outcome.{status_after, IsStatus, IsCheck, IsAnswered, IsStoppedEarly, IsCutShort, TookMoreThan, IsComplete, ReadToEnd, SaysRefused, IsOutcome}
+use Rattle.apsp_service.specs.Outcome.{status_after, IsStatus, IsCheck, IsLoad, IsAnswered, IsStoppedEarly, IsCutShort, TookMoreThan, IsComplete, ReadToEnd, SaysRefused, IsOutcome}
 use Rattle.apsp_service.specs.Ending.{IsShort, EndsAs}
 use Rattle.apsp_service.proofs.Checked.{one_checked}
 use Rattle.apsp_service.proofs.Lines.{whole_lines_is}
@@ -43,6 +43,14 @@ one_status : (m : Mode) (bytes t u : List ℕ) (a b : ℕ) → Session m bytes t
 one_status (mode.Run workers smooth) bytes t u a b h k = h.1 ∙ sym k.1
 one_status (mode.Live workers readers slots smooth) bytes t u a b h k = h.1 ∙ sym k.1
 one_status mode.Check bytes t u a b h k = (one_checked bytes t u a b h k).1
+one_status (mode.Load n seed workers) bytes t u a b h k = h.1 ∙ sym k.1
+
+-- a mode reads its input, or its text does not depend on it
+reads_or_not : (m : Mode) → (IsLoad m → ⊥) ⊎ ((bytes input text : List ℕ) (status : ℕ) → Session m bytes text status → Session m input text status)
+reads_or_not (mode.Run workers smooth) = inl (λ load. load)
+reads_or_not (mode.Live workers readers slots smooth) = inl (λ load. load)
+reads_or_not mode.Check = inl (λ load. load)
+reads_or_not (mode.Load n seed workers) = inr (λ bytes input text status h. h)
 
 -- ---- the outcome of each end
 
@@ -75,14 +83,18 @@ module _ (m : Mode) (left left_now held held_now : Option (List ℕ)) (before no
       at : (n : Mode) → IsCheck n → HasWholeReplies n (take MOST_INPUT s.bytes) s.text → Appends held held_now []
       at (mode.Run workers smooth) check replies = absurd check
       at (mode.Live workers readers slots smooth) check replies = absurd check
+      at (mode.Load n seed workers) check replies = absurd check
       at mode.Check check replies = let F : List ℕ → Type 0 = λ t. Appends held held_now t in subst F replies s.given
 
   session_is : (status : ℕ) (a : IsAnswered m left left_now held held_now status) (input : List ℕ) → left ≡ Some input → (text : List ℕ) × Appends held held_now text × Session m input text status
-  session_is status a input told =
-      let F : Option (List ℕ) → Type 0 = λ o. Consumes o left_now a.bytes in
-      let same : input ≡ a.bytes = all_taken input left_now a.bytes (subst F told a.taken) a.last in
-      let G : List ℕ → Type 0 = λ z. Session m z a.text status in
-      (a.text, a.given, subst G (sym same) a.session)
+  session_is status a input told = elim (reads_or_not m) [
+    | inl reads ↦
+        let F : Option (List ℕ) → Type 0 = λ o. Consumes o left_now a.bytes in
+        let same : input ≡ a.bytes = all_taken input left_now a.bytes (subst F told a.taken) (a.last reads) in
+        let G : List ℕ → Type 0 = λ z. Session m z a.text status in
+        (a.text, a.given, subst G (sym same) a.session)
+    | inr free ↦ (a.text, a.given, free a.bytes input a.text status a.session)
+  ]
 
   ok_outcome : (refused : Bool) (a : IsAnswered m left left_now held held_now (ended refused)) → length a.bytes ≤ MOST_INPUT → IsOutcome m left left_now held held_now before now sink_before sink_now (ended refused)
   ok_outcome refused a few = record {
@@ -213,12 +225,13 @@ pub record IsOverLines (m : Mode) (start : State) : Type 0 where
   session : (bytes text : List ℕ) (status : ℕ) → HasSession start bytes text status → Session m bytes text status
   whole : (bytes text : List ℕ) → HaveReplies start (whole_lines bytes) text → HasWholeReplies m bytes text
   no_check : IsCheck m → ⊥
+  no_load : IsLoad m → ⊥
 
 pub run_over : (workers : ℕ) (smooth : Bool) → IsOverLines (mode.Run workers smooth) (opening None smooth)
-run_over workers smooth = record { session = λ bytes text status h. h; whole = λ bytes text h. h; no_check = λ check. check }
+run_over workers smooth = record { session = λ bytes text status h. h; whole = λ bytes text h. h; no_check = λ check. check; no_load = λ load. load }
 
 pub live_over : (workers readers slots : ℕ) (smooth : Bool) → IsOverLines (mode.Live workers readers slots smooth) (opening (Some readers) smooth)
-live_over workers readers slots smooth = record { session = λ bytes text status h. h; whole = λ bytes text h. h; no_check = λ check. check }
+live_over workers readers slots smooth = record { session = λ bytes text status h. h; whole = λ bytes text h. h; no_check = λ check. check; no_load = λ load. load }
 
 module _ (m : Mode) (start : State) (over : IsOverLines m start) (left left_now held held_now : Option (List ℕ)) (before now sink_before sink_now : ℕ) where
   early_of : (bytes : List ℕ) → StoppedAfter start left left_now held held_now bytes → IsStoppedEarly m left left_now held held_now
@@ -243,7 +256,7 @@ module _ (m : Mode) (start : State) (over : IsOverLines m start) (left left_now 
   run_ends (Ok refused) h =
       let r = h.1 in
       let status = status_after (Ok refused) in (
-        record { bytes = h.0; text = r.gave.0; taken = r.taken; last = r.last; given = r.gave.2; session = over.session h.0 r.gave.0 status (r.gave.1, status_from refused (has_refused (after_lines start (lines_of h.0))) r.refused) },
+        record { bytes = h.0; text = r.gave.0; taken = r.taken; last = λ _. r.last; unread = λ load. absurd (over.no_load load); given = r.gave.2; session = over.session h.0 r.gave.0 status (r.gave.1, status_from refused (has_refused (after_lines start (lines_of h.0))) r.refused) },
         r.few,
       )
   run_ends (Err stop.Source) h = (early_of h.0.0 h.0.1, h.0.2, h.1)

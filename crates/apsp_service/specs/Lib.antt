@@ -4,6 +4,7 @@ pub mod Stats
 pub mod Age
 pub mod Certificate
 pub mod Check
+pub mod Load
 pub mod Replies
 pub mod Begun
 pub mod Words

@@ -19,6 +19,7 @@ use Rattle.apsp_service.specs.Stats.{IsStatsReply}
 use Rattle.apsp_service.specs.Age.{IsAgeReply}
 use Rattle.apsp_service.specs.Certificate.{IsCertReply}
 use Rattle.apsp_service.specs.Check.{IsChecked}
+use Rattle.apsp_service.specs.Load.{IsLoadReply}
 use Rattle.apsp_service.specs.Replies.{error_text, answer_text}
 use Rattle.graph_store.specs.Plan.{Plan, with_star}
 use Rattle.apsp_service.specs.Blocks.{Block, last_graph, updates_in, asks_in}
@@ -194,12 +195,14 @@ abbrev pub Session : Mode → List ℕ → List ℕ → ℕ → Type 0
 Session (mode.Run workers smooth) bytes text status = HasSession (opening None smooth) bytes text status
 Session (mode.Live workers readers slots smooth) bytes text status = HasSession (opening (Some readers) smooth) bytes text status
 Session mode.Check bytes text status = IsChecked bytes text status
+Session (mode.Load n seed workers) bytes text status = IsLoadReply n seed text × (status ≡ 0)
 
 -- whether the answers of a mode may hang on the schedule
 abbrev pub has_blocks : Mode → Bool
 has_blocks (mode.Run workers smooth) = false
 has_blocks (mode.Live workers readers slots smooth) = true
 has_blocks mode.Check = false
+has_blocks (mode.Load n seed workers) = false
 
 -- there is a text and a status that the session has for these bytes, and no other
 pub record HasOneText (mode : Mode) (bytes : List ℕ) : Type 0 where
@@ -215,8 +218,9 @@ pub record HasOneStatus (mode : Mode) (bytes : List ℕ) : Type 0 where
   pub session : Session mode bytes text status
   pub only : (other : List ℕ) (ended : ℕ) → Session mode bytes other ended → ended ≡ status
 
--- the replies to whole lines alone; the mode that checks has none before the end of the input
+-- the replies to whole lines alone; the modes without lines have none before their end
 abbrev pub HasWholeReplies : Mode → List ℕ → List ℕ → Type 0
 HasWholeReplies (mode.Run workers smooth) bytes text = HaveReplies (opening None smooth) (whole_lines bytes) text
 HasWholeReplies (mode.Live workers readers slots smooth) bytes text = HaveReplies (opening (Some readers) smooth) (whole_lines bytes) text
 HasWholeReplies mode.Check bytes text = text ≡ []
+HasWholeReplies (mode.Load n seed workers) bytes text = text ≡ []

@@ -5,7 +5,7 @@ use Rattle.script_reader.specs.Numbers.{number_of}
 use Rattle.apsp_service.specs.declared.words.Mode.{Mode}
 use Rattle.apsp_service.specs.declared.words.Mode.TheVariants as mode
 use Rattle.apsp_service.specs.declared.words.Options.{Options}
-use Rattle.apsp_service.specs.declared.words.TheConstants.{MOST_WORKERS, WORKERS, MOST_READERS, READERS, LEAST_SLOTS, MOST_SLOTS, SLOTS, MOST_DIGITS}
+use Rattle.apsp_service.specs.declared.words.TheConstants.{MOST_WORKERS, WORKERS, MOST_READERS, READERS, LEAST_SLOTS, MOST_SLOTS, SLOTS, LEAST_DRAWN, MOST_DRAWN, MOST_DIGITS}
 
 -- how many workers there may be
 abbrev pub IsWorkerCount : ℕ → Type 0
@@ -18,10 +18,16 @@ IsReaderCount readers = (1 ≤ readers) × (readers ≤ MOST_READERS)
 abbrev pub IsSlotCount : ℕ → Type 0
 IsSlotCount slots = (LEAST_SLOTS ≤ slots) × (slots ≤ MOST_SLOTS)
 
+-- how many vertices generated input may have
+abbrev pub IsLoadSize : ℕ → Type 0
+IsLoadSize n = (LEAST_DRAWN ≤ n) × (n ≤ MOST_DRAWN)
+
+-- the numbers of a mode are in their ranges
 abbrev pub HasWorkers : Mode → Type 0
 HasWorkers (mode.Run workers smooth) = IsWorkerCount workers
 HasWorkers (mode.Live workers readers slots smooth) = IsWorkerCount workers × IsReaderCount readers × IsSlotCount slots
 HasWorkers mode.Check = ⊤
+HasWorkers (mode.Load n seed workers) = IsLoadSize n × IsWorkerCount workers
 
 -- the number that a word is, of few digits
 abbrev pub word_number : List ℕ → Option ℕ
@@ -85,10 +91,26 @@ abbrev pub check_of : List (List ℕ) → Option Mode
 check_of [] = Some mode.Check
 check_of (option ∷ options) = None
 
+-- the mode `load` with the words of its two numbers, and its options
+abbrev pub load_with : ℕ → ℕ → Options → Option Mode
+load_with n seed o =
+    if o.smooth || (is_some o.readers || is_some o.slots) then None else Some (mode.Load n seed (unwrap_or o.workers WORKERS))
+
+abbrev pub drawn_of : List ℕ → List ℕ → List (List ℕ) → Option Mode
+drawn_of n seed words =
+    option_and_then (λ k. option_and_then (λ s. option_and_then (load_with k s) (options_from no_options words)) (word_number seed))
+    (number_in LEAST_DRAWN MOST_DRAWN n)
+
+abbrev pub load_of : List (List ℕ) → Option Mode
+load_of [] = None
+load_of (n ∷ []) = None
+load_of (n ∷ seed ∷ words) = drawn_of n seed words
+
 -- the mode that the words give, if they are in the grammar; no words mean `run`
 abbrev pub mode_of : List (List ℕ) → Option Mode
 mode_of [] = run_of []
 mode_of (word ∷ rest) =
     if bytes_eq word (codes "run") then run_of rest
     else (if bytes_eq word (codes "live") then live_of rest
-    else (if bytes_eq word (codes "check") then check_of rest else None))
+    else (if bytes_eq word (codes "check") then check_of rest
+    else (if bytes_eq word (codes "load") then load_of rest else None)))

@@ -4,12 +4,13 @@ ghost use Rattle.apsp_service.specs.Words.{HasWorkers, IsWorkerCount, IsReaderCo
 ghost use Rattle.std.specs.Io.KnownBytes.{Appends};
 ghost use Rattle.apsp_io.specs.Streams.{Rose};
 ghost use Rattle.apsp_service.specs.Session.{Session, has_blocks};
-ghost use Rattle.apsp_service.specs.Outcome.{status_after, ReadToEnd, IsStatus, IsAnswered, IsStoppedEarly, IsCutShort, IsComplete, IsCheck, TookMoreThan, TookAtMost, SaysTooMuch, SaysRefused};
+ghost use Rattle.apsp_service.specs.Outcome.{status_after, ReadToEnd, IsStatus, IsAnswered, IsStoppedEarly, IsCutShort, IsComplete, IsCheck, IsLoad, IsLoadEnd, IsLoadStatus, TookMoreThan, TookAtMost, SaysTooMuch, SaysRefused};
 ghost use Rattle.apsp_service.specs.Ending.{EndsAs};
 
 use crate::blocks::{LiveBlocks, NoBlocks};
 use crate::check::check_input;
 use crate::crew::Crew;
+use crate::load::load;
 use crate::run::{MOST_INPUT, run};
 use crate::stop::Stop;
 use crate::words::{Mode, read_words};
@@ -25,7 +26,8 @@ use std::thread::Threads;
 
 /// Runs a mode without blocks. A script's lines are taken from the source, and the sink is given a reply
 /// to each line that has one, as soon as the line is whole; the mode that checks takes the whole input
-/// and gives one line. It waits for nobody and returns.
+/// and gives one line, and the mode that generates its input takes nothing and gives one line. It waits
+/// for nobody and returns.
 ///
 /// The status is 0 where the input was read to its end and nothing was refused, and 1 where something
 /// was. It is 3 or 4 where the source or the sink failed, 5 where memory ran out, and 6 where the
@@ -60,6 +62,10 @@ pub fn script<S: Source, K: Sink, G: Gate, R: Threads + Sync>(
     ensures cut_short { (result ≡ 4) ⊎ (result ≡ 5) → IfSome (S.left source.old) (λ input. IsCutShort mode.now input (K.held sink.old) (K.held sink.new)) }
     ensures nothing_written { IsCheck mode.now → (result ≡ 3) ⊎ ((result ≡ 5) ⊎ (result ≡ 6)) → Appends (K.held sink.old) (K.held sink.new) [] }
 
+    // The mode that generates its input.
+    ensures load_statuses { IsLoad mode.now → IsLoadStatus result }
+    ensures load_unread { IsLoad mode.now → source.new ≡ source.old }
+
     ensures takes { TookAtMost (MOST_INPUT + 1) (S.left source.old) (S.left source.new) }
     ensures source_later { S.faults source.old ≤ S.faults source.new }
     ensures sink_later { K.faults sink.old ≤ K.faults sink.new }
@@ -80,6 +86,8 @@ fn run_as<S: Source, K: Sink, G: Gate, R: Threads + Sync>(
     requires no_blocks { has_blocks mode.now ≡ false }
     ensures ends { EndsAs mode.now result (S.left source.old) (S.left source.new) (K.held sink.old) (K.held sink.new)
         (S.faults source.old) (S.faults source.new) (K.faults sink.old) (K.faults sink.new) }
+    ensures load { IsLoad mode.now → IsLoadEnd result }
+    ensures load_unread { IsLoad mode.now → source.new ≡ source.old }
     ensures source_later { S.faults source.old ≤ S.faults source.new }
     ensures sink_later { K.faults sink.old ≤ K.faults sink.new }
 {
@@ -90,6 +98,7 @@ fn run_as<S: Source, K: Sink, G: Gate, R: Threads + Sync>(
             run(alloc, &crew, *smooth, source, sink)
         }
         Mode::Check => check_input(alloc, source, sink),
+        Mode::Load { n, seed, workers } => load(rt, alloc, *n, *seed, *workers, sink, gate),
         Mode::Live { .. } => unreachable!(),
     }
 }
@@ -134,6 +143,10 @@ pub fn top<S: Source, K: Sink, G: Gate, R: Threads + Wait + Sync>(
         → IfSome (S.left source.old) (λ input. IsCutShort mode input (K.held sink.old) (K.held sink.new))) }
     ensures nothing_written { IfSome (mode_of (map string_bytes words.now)) (λ mode. IsCheck mode → (result ≡ 3) ⊎ ((result ≡ 5) ⊎ (result ≡ 6))
         → Appends (K.held sink.old) (K.held sink.new) []) }
+
+    // The mode that generates its input.
+    ensures load_statuses { IfSome (mode_of (map string_bytes words.now)) (λ mode. IsLoad mode → IsLoadStatus result) }
+    ensures load_unread { IfSome (mode_of (map string_bytes words.now)) (λ mode. IsLoad mode → source.new ≡ source.old) }
 
     ensures takes { TookAtMost (MOST_INPUT + 1) (S.left source.old) (S.left source.new) }
     ensures source_later { S.faults source.old ≤ S.faults source.new }

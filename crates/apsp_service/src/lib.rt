@@ -8,6 +8,7 @@ mod check;
 mod crew;
 mod entry;
 pub mod laws;
+mod load;
 mod network;
 mod replies;
 mod run;

@@ -1,7 +1,7 @@
 //! The words of the command line.
 
 ghost use Rattle.std.specs.Prelude.{◌≡◌, ◌≤◌, IfSome, map, string_bytes};
-ghost use Rattle.apsp_service.specs.Words.{HasWorkers, MayWork, mode_of, run_of, live_of, check_of, no_options, options_from, with_smooth, with_number, number_in, word_number};
+ghost use Rattle.apsp_service.specs.Words.{HasWorkers, MayWork, mode_of, run_of, live_of, check_of, load_of, drawn_of, no_options, options_from, with_smooth, with_number, number_in, word_number};
 
 use script_reader::number_of;
 
@@ -26,6 +26,12 @@ pub const MOST_SLOTS: u32 = 64;
 /// The slots where the words do not say how many.
 pub const SLOTS: u32 = 4;
 
+/// The least vertices of generated input.
+pub const LEAST_DRAWN: u32 = 2;
+
+/// The most vertices of generated input.
+pub const MOST_DRAWN: u32 = 128;
+
 /// The most digits of a number of the command line.
 const MOST_DIGITS: usize = 10;
 
@@ -46,6 +52,8 @@ pub enum Mode {
     },
     /// Reads a certificate, and says what holds of it.
     Check,
+    /// Runs the input that a seed draws on `LEAST_DRAWN` to `MOST_DRAWN` vertices.
+    Load { n: u32, seed: u64, workers: u32 },
 }
 
 /// What the options say. A number is none where its option is not given.
@@ -59,8 +67,9 @@ pub struct Options {
 
 /// The mode that the words of the command line give, and none where they are not in the grammar:
 /// no words, or the word `run`, with the options `--workers W` and `--smooth`, or the word `live`,
-/// with these and `--readers R` and `--slots K`, or the word `check` alone. Options stand in any order,
-/// each at most once. Takes no memory.
+/// with these and `--readers R` and `--slots K`, or the word `check` alone, or the word `load`, the
+/// numbers N and SEED, and the option `--workers W`. Options stand in any order, each at most once.
+/// Takes no memory.
 pub fn read_words(words: &[String]) -> Option<Mode>
     ensures mode { result ≡ mode_of (map string_bytes words.now) }
     ensures workers { IfSome result HasWorkers }
@@ -70,6 +79,7 @@ pub fn read_words(words: &[String]) -> Option<Mode>
         [mode, rest @ ..] if mode.as_str() == "run" => run_mode(rest),
         [mode, rest @ ..] if mode.as_str() == "live" => live_mode(rest),
         [mode, rest @ ..] if mode.as_str() == "check" => check_mode(rest),
+        [mode, rest @ ..] if mode.as_str() == "load" => load_mode(rest),
         _ => None,
     }
 }
@@ -112,6 +122,35 @@ fn check_mode(words: &[String]) -> Option<Mode>
     } else {
         None
     }
+}
+
+/// The mode `load` with its numbers and its options.
+fn load_mode(words: &[String]) -> Option<Mode>
+    ensures mode { result ≡ load_of (map string_bytes words.now) }
+    ensures workers { IfSome result HasWorkers }
+{
+    match words {
+        [n, seed, rest @ ..] => drawn_mode(n.as_str(), seed.as_str(), rest),
+        _ => None,
+    }
+}
+
+/// The mode `load` with the words of its numbers, and those of its options.
+fn drawn_mode(n: &str, seed: &str, words: &[String]) -> Option<Mode>
+    ensures mode { result ≡ drawn_of n.now seed.now (map string_bytes words.now) }
+    ensures workers { IfSome result HasWorkers }
+{
+    let n = number_in(LEAST_DRAWN, MOST_DRAWN, n)?;
+    let seed = word_number(seed)?;
+    let options = read_options(Options::new(), words)?;
+    if options.smooth || options.readers.is_some() || options.slots.is_some() {
+        return None;
+    }
+    Some(Mode::Load {
+        n,
+        seed,
+        workers: options.workers.unwrap_or(WORKERS),
+    })
 }
 
 /// What the words say behind what was given before them.

@@ -1,0 +1,4 @@
+pub mod Draws
+pub mod Stars
+pub mod Report
+pub mod Rows
