@@ -53,7 +53,11 @@ pub enum Mode {
     /// Reads a certificate, and says what holds of it.
     Check,
     /// Runs the input that a seed draws on `LEAST_DRAWN` to `MOST_DRAWN` vertices.
-    Load { n: u32, seed: u64, workers: u32 },
+    Load {
+        n: u32,
+        seed: u64,
+        workers: u32,
+    },
 }
 
 /// What the options say. A number is none where its option is not given.

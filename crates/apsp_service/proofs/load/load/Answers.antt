@@ -19,8 +19,8 @@ returns-in_err-put_load-clause-load g c = memory_end _ c.from_residual-in_err-pu
 pub returns-in_err-give-clause-ends : goal.returns-in_err-give-clause-ends
 returns-in_err-give-clause-ends g c left before =
     load_stops _ _ _ _ _ left _ _ before _ _ (string_bytes c.put_load.new.text) c.from_residual-in_err-give.ensures.1
-      (c.in_ok-report.report, c.in_ok-report.ensures, c.in_ok-put_load.ensures ∙ ap (λ o. o ++ load_text c.args.n c.args.seed c.in_ok-report.report) c.new-text.ensures.bytes)
-      (rw c.as_str.ensures.value at c.in_err-give.ensures.given)
+    (c.in_ok-report.report, c.in_ok-report.ensures, c.in_ok-put_load.ensures ∙ ap (λ o. o ++ load_text c.args.n c.args.seed c.in_ok-report.report) c.new-text.ensures.bytes)
+    (rw c.as_str.ensures.value at c.in_err-give.ensures.given)
 
 pub returns-in_err-give-clause-load : goal.returns-in_err-give-clause-load
 returns-in_err-give-clause-load g c = given_end _ _ _ _ _ _ _ c.from_residual-in_err-give.ensures.1 c.in_err-give.ensures.given
@@ -28,5 +28,5 @@ returns-in_err-give-clause-load g c = given_end _ _ _ _ _ _ _ c.from_residual-in
 pub returns-clause-ends : goal.returns-clause-ends
 returns-clause-ends g c left before =
     load_done _ _ _ left _ _ before 0 0 (string_bytes c.put_load.new.text)
-      (c.in_ok-report.report, c.in_ok-report.ensures, c.in_ok-put_load.ensures ∙ ap (λ o. o ++ load_text c.args.n c.args.seed c.in_ok-report.report) c.new-text.ensures.bytes)
-      (rw c.as_str.ensures.value at c.in_ok-give.ensures.given)
+    (c.in_ok-report.report, c.in_ok-report.ensures, c.in_ok-put_load.ensures ∙ ap (λ o. o ++ load_text c.args.n c.args.seed c.in_ok-report.report) c.new-text.ensures.bytes)
+    (rw c.as_str.ensures.value at c.in_ok-give.ensures.given)
