@@ -1,4 +1,6 @@
 pub mod Lines
+pub mod Lawful
+pub mod BlockAnswered
 pub mod Replied
 pub mod Checked
 pub mod OneText

@@ -1,18 +1,17 @@
 -- What a run's end says of its status.
 use Rattle.std.proofs.Common.{◌≡◌, ◌⊎◌, ℕ, ◌+◌, ◌<◌, ◌≤◌, Bool, true, false, List, [], ◌++◌, length, take, refl, sym, ap, subst, ◌∙◌, arith, inl, inr, append-nil, length-append}
-use Rattle.std.specs.Prelude.{Option, Some, None, Result, Ok, Err, IfSome, if◌then◌else◌}
+use Rattle.std.specs.Prelude.{◌↔◌, Option, Some, None, Result, Ok, Err, IfSome, if◌then◌else◌}
 use Rattle.std.specs.Io.KnownBytes.{Consumes, IsAtEnd, Appends}
 use Rattle.apsp_io.specs.Streams.{Rose}
-use Rattle.script_reader.specs.Input.{lines_of}
+use Rattle.script_reader.specs.Input.{lines_of, whole_lines}
 use Rattle.apsp_service.specs.declared.words.Mode.{Mode}
 use Rattle.apsp_service.specs.declared.words.Mode.TheVariants as mode
 use Rattle.apsp_service.specs.declared.stop.Stop.{Stop}
 use Rattle.apsp_service.specs.declared.stop.Stop.TheVariants as stop
 use Rattle.apsp_service.specs.declared.run.TheConstants.{MOST_INPUT}
-use Rattle.apsp_service.specs.Session.{Session, HasWholeReplies, HaveReplies, opening, after_lines, status_of}
-use Rattle.apsp_service.specs.Begun.{lines_from}
+use Rattle.apsp_service.specs.Session.{State, Session, HasSession, HasWholeReplies, HaveReplies, opening, has_blocks, has_refused, after_lines, status_of}
 use Rattle.apsp_service.specs.Running.{RunEnds, RanToEnd, StoppedAfter, StoppedAmong}
-use Rattle.apsp_service.specs.Outcome.{status_after, IsCheck, IsLoad, IsAnswered, IsStoppedEarly, IsCutShort, TookMoreThan, IsComplete, ReadToEnd, SaysRefused, IsOutcome}
+use Rattle.apsp_service.specs.Outcome.{status_after, IsStatus, IsCheck, IsLoad, IsAnswered, IsStoppedEarly, IsCutShort, TookMoreThan, IsComplete, ReadToEnd, SaysRefused, IsOutcome}
 use Rattle.apsp_service.specs.Ending.{IsShort, EndsAs}
 use Rattle.apsp_service.proofs.Checked.{one_checked}
 use Rattle.apsp_service.proofs.Lines.{whole_lines_is}
@@ -42,12 +41,14 @@ all_taken xs (Some ys) bytes taken last = taken ∙ ap (λ z. bytes ++ z) last �
 -- an input has one status
 one_status : (m : Mode) (bytes t u : List ℕ) (a b : ℕ) → Session m bytes t a → Session m bytes u b → a ≡ b
 one_status (mode.Run workers smooth) bytes t u a b h k = h.1 ∙ sym k.1
+one_status (mode.Live workers readers slots smooth) bytes t u a b h k = h.1 ∙ sym k.1
 one_status mode.Check bytes t u a b h k = (one_checked bytes t u a b h k).1
 one_status (mode.Load n seed workers) bytes t u a b h k = h.1 ∙ sym k.1
 
 -- a mode reads its input, or its text does not depend on it
 reads_or_not : (m : Mode) → (IsLoad m → ⊥) ⊎ ((bytes input text : List ℕ) (status : ℕ) → Session m bytes text status → Session m input text status)
 reads_or_not (mode.Run workers smooth) = inl (λ load. load)
+reads_or_not (mode.Live workers readers slots smooth) = inl (λ load. load)
 reads_or_not mode.Check = inl (λ load. load)
 reads_or_not (mode.Load n seed workers) = inr (λ bytes input text status h. h)
 
@@ -81,6 +82,7 @@ module _ (m : Mode) (left left_now held held_now : Option (List ℕ)) (before no
     where
       at : (n : Mode) → IsCheck n → HasWholeReplies n (take MOST_INPUT s.bytes) s.text → Appends held held_now []
       at (mode.Run workers smooth) check replies = absurd check
+      at (mode.Live workers readers slots smooth) check replies = absurd check
       at (mode.Load n seed workers) check replies = absurd check
       at mode.Check check replies = let F : List ℕ → Type 0 = λ t. Appends held held_now t in subst F replies s.given
 
@@ -218,35 +220,48 @@ status_from true true e = refl
 status_from false true e = cc
 status_from true false e = cc
 
-module _ (workers : ℕ) (smooth : Bool) (left left_now held held_now : Option (List ℕ)) (before now sink_before sink_now : ℕ) where
-  abbrev mode_run : Mode
-  mode_run = mode.Run workers smooth
+-- the mode is the session over lines that begins in this state
+pub record IsOverLines (m : Mode) (start : State) : Type 0 where
+  session : (bytes text : List ℕ) (status : ℕ) → HasSession start bytes text status → Session m bytes text status
+  whole : (bytes text : List ℕ) → HaveReplies start (whole_lines bytes) text → HasWholeReplies m bytes text
+  no_check : IsCheck m → ⊥
+  no_load : IsLoad m → ⊥
 
-  early_of : (bytes : List ℕ) → StoppedAfter smooth left left_now held held_now bytes → IsStoppedEarly mode_run left left_now held held_now
+pub run_over : (workers : ℕ) (smooth : Bool) → IsOverLines (mode.Run workers smooth) (opening None smooth)
+run_over workers smooth = record { session = λ bytes text status h. h; whole = λ bytes text h. h; no_check = λ check. check; no_load = λ load. load }
+
+pub live_over : (workers readers slots : ℕ) (smooth : Bool) → IsOverLines (mode.Live workers readers slots smooth) (opening (Some readers) smooth)
+live_over workers readers slots smooth = record { session = λ bytes text status h. h; whole = λ bytes text h. h; no_check = λ check. check; no_load = λ load. load }
+
+module _ (m : Mode) (start : State) (over : IsOverLines m start) (left left_now held held_now : Option (List ℕ)) (before now sink_before sink_now : ℕ) where
+  early_of : (bytes : List ℕ) → StoppedAfter start left left_now held held_now bytes → IsStoppedEarly m left left_now held held_now
   early_of bytes s =
-      let F : List (List ℕ) → Type 0 = λ ls. HaveReplies (opening smooth) ls s.gave.0 in
-      record { bytes = bytes; text = s.gave.0; taken = s.taken; given = s.gave.2; replies = subst F (sym (whole_lines_is (take MOST_INPUT bytes))) s.gave.1 }
+      let F : List (List ℕ) → Type 0 = λ ls. HaveReplies start ls s.gave.0 in
+      record { bytes = bytes; text = s.gave.0; taken = s.taken; given = s.gave.2; replies = over.whole (take MOST_INPUT bytes) s.gave.0 (subst F (sym (whole_lines_is (take MOST_INPUT bytes))) s.gave.1) }
 
-  short_run : (bytes : List ℕ) → StoppedAmong smooth left left_now held held_now bytes → IsShort mode_run left left_now held held_now
+  short_run : (bytes : List ℕ) → StoppedAmong start left left_now held held_now bytes → IsShort m left left_now held held_now
   short_run bytes s = record {
     bytes = bytes;
     taken = s.taken;
     few = s.few;
     front = λ more told.
         let f = s.front more told in
-        record { front = f.0; rest = f.1.0; status = status_of (after_lines (opening smooth) (lines_of (take MOST_INPUT (bytes ++ more)))); given = f.2; session = (f.1.1, refl) };
+        let whole = take MOST_INPUT (bytes ++ more) in
+        let status = status_of (after_lines start (lines_of whole)) in
+        record { front = f.0; rest = f.1.0; status = status; given = f.2; session = over.session whole (f.0 ++ f.1.0) status (f.1.1, refl) };
   }
 
-  pub run_ends : (r : Result Bool Stop) → RunEnds smooth r left left_now held held_now before now sink_before sink_now → EndsAs mode_run r left left_now held held_now before now sink_before sink_now
+  pub run_ends : (r : Result Bool Stop) → RunEnds start r left left_now held held_now before now sink_before sink_now → EndsAs m r left left_now held held_now before now sink_before sink_now
   unfolding early_of
   run_ends (Ok refused) h =
-      let r = h.1 in (
-        record { bytes = h.0; text = r.gave.0; taken = r.taken; last = λ _. r.last; unread = λ load. absurd load; given = r.gave.2; session = (r.gave.1, status_from refused (after_lines (opening smooth) (lines_of h.0)).refused r.refused) },
+      let r = h.1 in
+      let status = status_after (Ok refused) in (
+        record { bytes = h.0; text = r.gave.0; taken = r.taken; last = λ _. r.last; unread = λ load. absurd (over.no_load load); given = r.gave.2; session = over.session h.0 r.gave.0 status (r.gave.1, status_from refused (has_refused (after_lines start (lines_of h.0))) r.refused) },
         r.few,
       )
   run_ends (Err stop.Source) h = (early_of h.0.0 h.0.1, h.0.2, h.1)
   run_ends (Err stop.Sink) h = (short_run h.0.0 h.0.1, h.1)
-  run_ends (Err stop.Memory) h = (short_run h.0 h.1, λ check. absurd check)
+  run_ends (Err stop.Memory) h = (short_run h.0 h.1, λ check. absurd (over.no_check check))
   run_ends (Err stop.Limit) h = (early_of h.0 h.1, h.2)
 
 -- what holds of the mode holds of that which the words give
@@ -254,3 +269,10 @@ pub of_words : (P : Mode → Type 0) (read given : Option Mode) (m : Mode) → r
 of_words P read given m is same h =
     let F : Option Mode → Type 0 = λ o. IfSome o P in
     subst F (sym is ∙ same) h
+
+-- the outcome of the mode `live`
+pub live_outcome : (workers readers slots : ℕ) (smooth : Bool) (start : State) (left left_now held held_now : Option (List ℕ)) (before now sink_before sink_now status : ℕ) (r : Result Bool Stop) → start ≡ opening (Some readers) smooth → status ≡ status_after r → RunEnds start r left left_now held held_now before now sink_before sink_now → IsOutcome (mode.Live workers readers slots smooth) left left_now held held_now before now sink_before sink_now status
+live_outcome workers readers slots smooth start left left_now held held_now before now sink_before sink_now status r same is h =
+    let m = mode.Live workers readers slots smooth in
+    let F : State → Type 0 = λ s. RunEnds s r left left_now held held_now before now sink_before sink_now in
+    outcome_at m left left_now held held_now before now sink_before sink_now status r is (run_ends m (opening (Some readers) smooth) (live_over workers readers slots smooth) left left_now held held_now before now sink_before sink_now r (subst F same h))

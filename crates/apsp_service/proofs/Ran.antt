@@ -4,20 +4,22 @@ use Rattle.std.specs.Prelude.{Option, Some, None, Result, Ok, Err, IsErrAnd}
 use Rattle.std.proofs.lemmas.Bool.{cases_lt}
 use Rattle.std.proofs.Math.Seq.{take-append-add}
 use Rattle.std.proofs.lemmas.List.{take_all, take-append-le, take-take}
-use Rattle.std.specs.Io.KnownBytes.{Consumes, Keeps, IsAtEnd}
+use Rattle.std.specs.Io.KnownBytes.{Consumes, Keeps, IsAtEnd, Appends}
 use Rattle.script_reader.specs.Input.{lines_of, line_if_some}
 use Rattle.apsp_service.specs.declared.session.Session.{Session}
 use Rattle.apsp_service.specs.declared.stop.Stop.{Stop}
 use Rattle.apsp_service.specs.declared.stop.Stop.TheVariants as stop
 use Rattle.apsp_service.specs.declared.run.TheConstants.{MOST_INPUT}
 use Rattle.apsp_service.specs.Begun.{lines_from, rest_from}
-use Rattle.apsp_service.specs.Session.{State, opening, after_lines}
-use Rattle.apsp_service.specs.Giving.{Gave, GaveFront, StopsAmong}
+use Rattle.apsp_service.specs.Session.{State, opening, ending_of, has_refused, after_lines}
+use Rattle.apsp_service.specs.Giving.{Gave, GaveFront, GaveFrontOfAll, LinesGiven, StopsAmong}
 use Rattle.apsp_service.specs.Standing.{IsAt, IsAfter}
 use Rattle.apsp_service.specs.Running.{SoFar, StoppedAfter, StoppedAmong, StopsRun, TookPiece, PieceEnds, AtEnd, AllEnds, RanToEnd, RunEnds, TakeEnds}
+use Rattle.apsp_io.specs.Streams.{GrowsByPrefix}
+use Rattle.apsp_service.specs.Lawful.{IsLawful}
 use Rattle.apsp_service.proofs.Lines.{lines_from-append, lines_go_on, lines_at_end}
 use Rattle.apsp_service.proofs.Replied.{after_lines-append, front_none, front_of_more}
-use Rattle.apsp_service.proofs.Given.{appends_nothing, gave_nothing, gave_more, rose_later, stops_behind}
+use Rattle.apsp_service.proofs.Given.{front_to_end, front_in_ending, gave_to_end, appends_nothing, gave_nothing, gave_more, rose_later, stops_behind}
 use Rattle.apsp_service.proofs.Taken.{after_front, gave_front}
 
 -- ---- what the source gave
@@ -38,16 +40,20 @@ consumes_kept (Some us) None c xs h k = absurd h
 consumes_kept (Some us) (Some vs) None xs h k = absurd k
 consumes_kept (Some us) (Some vs) (Some ws) xs h k = h ∙ ap (λ z. xs ++ z) (sym k)
 
-module _ (smooth : Bool) where
+-- where a session begins
+pub opening_is : (a b : Option ℕ) (x y : Bool) → a ≡ b → x ≡ y → opening a x ≡ opening b y
+opening_is a b x y e f = λ i. opening (e i) (f i)
+
+module _ (start : State) (lawful : IsLawful start) where
   -- ---- what a stop leaves
 
   -- the replies to the whole lines of a part are a front of those to all lines
-  front_goes_on : (held now : Option (List ℕ)) (part whole rest : List ℕ) → whole ≡ part ++ rest → GaveFront held now (opening smooth) (lines_from [] part) → GaveFront held now (opening smooth) (lines_of whole)
+  front_goes_on : (held now : Option (List ℕ)) (part whole rest : List ℕ) → whole ≡ part ++ rest → GaveFront held now start (lines_from [] part) → GaveFrontOfAll held now start (lines_of whole)
   front_goes_on held now part whole rest is h =
       let others = lines_go_on part rest in
       let lines_are : lines_of whole ≡ lines_from [] part ++ others.0 = ap lines_of is ∙ others.1 in
-      let F : List (List ℕ) → Type 0 = λ ls. GaveFront held now (opening smooth) ls in
-      subst F (sym lines_are) (h.0, front_of_more (opening smooth) (lines_from [] part) others.0 h.0 h.1, h.2)
+      let F : List (List ℕ) → Type 0 = λ ls. GaveFrontOfAll held now start ls in
+      subst F (sym lines_are) (front_to_end held now start (lines_from [] part ++ others.0) (h.0, front_of_more start (lines_from [] part) others.0 h.0 lawful h.1, h.2))
 
   take_both : (n : ℕ) (xs ys : List ℕ) → take n (xs ++ ys) ≡ take n xs ++ take (n - length xs) ys
   take_both n xs ys = elim (cases_lt n (length xs)) [
@@ -62,21 +68,21 @@ module _ (smooth : Bool) where
   take_more_front : (n : ℕ) (xs ys part : List ℕ) → take n xs ≡ part → take n (xs ++ ys) ≡ part ++ take (n - length xs) ys
   take_more_front n xs ys part is = take_both n xs ys ∙ ap (λ z. z ++ take (n - length xs) ys) is
 
-  among : (left left_now held held_now : Option (List ℕ)) (bytes part : List ℕ) → Consumes left left_now bytes → length bytes ≤ MOST_INPUT + 1 → take MOST_INPUT bytes ≡ part → GaveFront held held_now (opening smooth) (lines_from [] part) → StoppedAmong smooth left left_now held held_now bytes
+  among : (left left_now held held_now : Option (List ℕ)) (bytes part : List ℕ) → Consumes left left_now bytes → length bytes ≤ MOST_INPUT + 1 → take MOST_INPUT bytes ≡ part → GaveFront held held_now start (lines_from [] part) → StoppedAmong start left left_now held held_now bytes
   among left left_now held held_now bytes part taken few is h = record {
     taken = taken;
     few = few;
     front = λ more told. front_goes_on held held_now part (take MOST_INPUT (bytes ++ more)) (take (MOST_INPUT - length bytes) more) (take_more_front MOST_INPUT bytes more part is) h;
   }
 
-  pub stops_run : (e : Stop) (left left_now held held_now : Option (List ℕ)) (before now sink_before sink_now : ℕ) (bytes part : List ℕ) → Consumes left left_now bytes → length bytes ≤ MOST_INPUT + 1 → take MOST_INPUT bytes ≡ part → StopsAmong e held held_now sink_before sink_now (opening smooth) (lines_from [] part) → StopsRun smooth e left left_now held held_now before now sink_before sink_now
+  pub stops_run : (e : Stop) (left left_now held held_now : Option (List ℕ)) (before now sink_before sink_now : ℕ) (bytes part : List ℕ) → Consumes left left_now bytes → length bytes ≤ MOST_INPUT + 1 → take MOST_INPUT bytes ≡ part → StopsAmong e held held_now sink_before sink_now start (lines_from [] part) → StopsRun start e left left_now held held_now before now sink_before sink_now
   stops_run stop.Source left left_now held held_now before now sink_before sink_now bytes part taken few is h = absurd h
   stops_run stop.Sink left left_now held held_now before now sink_before sink_now bytes part taken few is h = ((bytes, among left left_now held held_now bytes part taken few is h.0), h.1)
   stops_run stop.Memory left left_now held held_now before now sink_before sink_now bytes part taken few is h = (bytes, among left left_now held held_now bytes part taken few is h)
   stops_run stop.Limit left left_now held held_now before now sink_before sink_now bytes part taken few is h = absurd h
 
   -- the counts are those from an earlier moment on
-  pub stops_later : (e : Stop) (left left_now held held_now : Option (List ℕ)) (first before now sink_first sink_before sink_now : ℕ) → first ≤ before → sink_first ≤ sink_before → StopsRun smooth e left left_now held held_now before now sink_before sink_now → StopsRun smooth e left left_now held held_now first now sink_first sink_now
+  pub stops_later : (e : Stop) (left left_now held held_now : Option (List ℕ)) (first before now sink_first sink_before sink_now : ℕ) → first ≤ before → sink_first ≤ sink_before → StopsRun start e left left_now held held_now before now sink_before sink_now → StopsRun start e left left_now held held_now first now sink_first sink_now
   stops_later stop.Source left left_now held held_now first before now sink_first sink_before sink_now l k h = (h.0, rose_later first before now now l h.1 (omega arith))
   stops_later stop.Sink left left_now held held_now first before now sink_first sink_before sink_now l k h = (h.0, rose_later sink_first sink_before sink_now sink_now k h.1 (omega arith))
   stops_later stop.Memory left left_now held held_now first before now sink_first sink_before sink_now l k h = h
@@ -87,29 +93,29 @@ module _ (smooth : Bool) where
   short_whole : (bytes : List ℕ) → length bytes ≤ MOST_INPUT → take MOST_INPUT bytes ≡ bytes
   short_whole bytes few = take_all MOST_INPUT bytes few
 
-  pub take_stops : (r : Result ℕ Stop) (e : Stop) (session next : Session) (left mid left_now held held_now : Option (List ℕ)) (before now sink_before sink_now room : ℕ) (buffer bytes : List ℕ) → IsErrAnd r (λ y. y ≡ e) → TakeEnds (Err e) mid left_now before now room buffer → SoFar smooth session left mid held held_now bytes → length bytes ≤ MOST_INPUT → PieceEnds smooth r next left left_now held held_now before now sink_before sink_now bytes
+  pub take_stops : (r : Result ℕ Stop) (e : Stop) (session next : Session) (left mid left_now held held_now : Option (List ℕ)) (before now sink_before sink_now room : ℕ) (buffer bytes : List ℕ) → IsErrAnd r (λ y. y ≡ e) → TakeEnds (Err e) mid left_now before now room buffer → SoFar start session left mid held held_now bytes → length bytes ≤ MOST_INPUT → PieceEnds start r next left left_now held held_now before now sink_before sink_now bytes
   take_stops (Ok a) e session next left mid left_now held held_now before now sink_before sink_now room buffer bytes h ends so_far few = absurd h
   take_stops (Err y) e session next left mid left_now held held_now before now sink_before sink_now room buffer bytes h ends so_far few =
-      let F : Stop → Type 0 = λ z. StopsRun smooth z left left_now held held_now before now sink_before sink_now in
-      let G : List ℕ → Type 0 = λ z. Gave held held_now (opening smooth) (lines_from [] z) in
-      let after : StoppedAfter smooth left left_now held held_now bytes = record {
+      let F : Stop → Type 0 = λ z. StopsRun start z left left_now held held_now before now sink_before sink_now in
+      let G : List ℕ → Type 0 = λ z. Gave held held_now start (lines_from [] z) in
+      let after : StoppedAfter start left left_now held held_now bytes = record {
         taken = consumes_kept left mid left_now bytes so_far.taken ends.1;
         gave = subst G (sym (short_whole bytes few)) so_far.gave;
       } in
       subst F (sym (h ∙ ends.0)) ((bytes, after, few), ends.2)
 
   -- a stop while a part of the piece is answered
-  pub piece_stops : (r : Result ℕ Stop) (e : Stop) (session next : Session) (left mid left_now held held_mid held_now : Option (List ℕ)) (before now sink_before sink_now : ℕ) (bytes piece part : List ℕ) → IsErrAnd r (λ y. y ≡ e) → SoFar smooth session left mid held held_mid bytes → Consumes mid left_now piece → length bytes + length piece ≤ MOST_INPUT + 1 → take MOST_INPUT (bytes ++ piece) ≡ bytes ++ part → ((s : State) (content : List ℕ) → IsAt session s content → StopsAmong e held_mid held_now sink_before sink_now s (lines_from content part)) → PieceEnds smooth r next left left_now held held_now before now sink_before sink_now bytes
+  pub piece_stops : (r : Result ℕ Stop) (e : Stop) (session next : Session) (left mid left_now held held_mid held_now : Option (List ℕ)) (before now sink_before sink_now : ℕ) (bytes piece part : List ℕ) → IsErrAnd r (λ y. y ≡ e) → SoFar start session left mid held held_mid bytes → Consumes mid left_now piece → length bytes + length piece ≤ MOST_INPUT + 1 → take MOST_INPUT (bytes ++ piece) ≡ bytes ++ part → ((s : State) (content : List ℕ) → IsAt session s content → StopsAmong e held_mid held_now sink_before sink_now s (lines_from content part)) → PieceEnds start r next left left_now held held_now before now sink_before sink_now bytes
   piece_stops (Ok a) e session next left mid left_now held held_mid held_now before now sink_before sink_now bytes piece part h so_far taken few is stops = absurd h
   piece_stops (Err y) e session next left mid left_now held held_mid held_now before now sink_before sink_now bytes piece part h so_far taken few is stops =
-      let F : Stop → Type 0 = λ z. StopsRun smooth z left left_now held held_now before now sink_before sink_now in
-      let G : List (List ℕ) → Type 0 = λ ls. StopsAmong e held held_now sink_before sink_now (opening smooth) ls in
+      let F : Stop → Type 0 = λ z. StopsRun start z left left_now held held_now before now sink_before sink_now in
+      let G : List (List ℕ) → Type 0 = λ ls. StopsAmong e held held_now sink_before sink_now start ls in
       let lines_are : lines_from [] bytes ++ lines_from (rest_from [] bytes) part ≡ lines_from [] (bytes ++ part) = sym (lines_from-append [] bytes part) in
-      let stop : StopsAmong e held held_now sink_before sink_now (opening smooth) (lines_from [] (bytes ++ part)) =
-      subst G lines_are (stops_behind e held held_mid held_now sink_before sink_before sink_now (opening smooth) (lines_from [] bytes) (lines_from (rest_from [] bytes) part) so_far.gave (omega arith) (stops _ _ so_far.after)) in
+      let stop : StopsAmong e held held_now sink_before sink_now start (lines_from [] (bytes ++ part)) =
+      subst G lines_are (stops_behind e held held_mid held_now sink_before sink_before sink_now start (lines_from [] bytes) (lines_from (rest_from [] bytes) part) so_far.gave (omega arith) (stops _ _ so_far.after)) in
       subst F (sym h) (stops_run e left left_now held held_now before now sink_before sink_now (bytes ++ piece) (bytes ++ part) (consumes_both left mid left_now bytes piece so_far.taken taken) (omega (arith, length-append bytes piece)) is stop)
 
-  pub took_piece : (session next : Session) (left mid left_now held held_mid held_now : Option (List ℕ)) (bytes piece : List ℕ) (count : ℕ) → length piece ≡ count → SoFar smooth session left mid held held_mid bytes → Consumes mid left_now piece → (count ≡ 0 → IsAtEnd left_now) → ((s : State) (content : List ℕ) → IsAt session s content → IsAfter next s content piece × Gave held_mid held_now s (lines_from content piece)) → TookPiece smooth next left left_now held held_now bytes count
+  pub took_piece : (session next : Session) (left mid left_now held held_mid held_now : Option (List ℕ)) (bytes piece : List ℕ) (count : ℕ) → length piece ≡ count → SoFar start session left mid held held_mid bytes → Consumes mid left_now piece → (count ≡ 0 → IsAtEnd left_now) → ((s : State) (content : List ℕ) → IsAt session s content → IsAfter next s content piece × Gave held_mid held_now s (lines_from content piece)) → TookPiece start next left left_now held held_now bytes count
   took_piece session next left mid left_now held held_mid held_now bytes piece count size so_far taken last takes =
       let h = takes _ _ so_far.after in
       record {
@@ -117,20 +123,20 @@ module _ (smooth : Bool) where
         size = size;
         so_far = record {
           taken = consumes_both left mid left_now bytes piece so_far.taken taken;
-          after = after_front next (opening smooth) [] bytes piece h.0;
-          gave = gave_front held held_mid held_now (opening smooth) [] bytes piece so_far.gave h.1;
+          after = after_front next start [] bytes piece h.0;
+          gave = gave_front held held_mid held_now start [] bytes piece so_far.gave h.1;
         };
         last = last;
       }
 
-  pub took_too_much : (session next : Session) (left mid left_now held held_mid held_now : Option (List ℕ)) (bytes piece part : List ℕ) → SoFar smooth session left mid held held_mid bytes → Consumes mid left_now piece → length bytes + length piece ≡ MOST_INPUT + 1 → take MOST_INPUT (bytes ++ piece) ≡ bytes ++ part → ((s : State) (content : List ℕ) → IsAt session s content → IsAfter next s content part × Gave held_mid held_now s (lines_from content part)) → (all : List ℕ) × StoppedAfter smooth left left_now held held_now all × (length all ≡ MOST_INPUT + 1)
+  pub took_too_much : (session next : Session) (left mid left_now held held_mid held_now : Option (List ℕ)) (bytes piece part : List ℕ) → SoFar start session left mid held held_mid bytes → Consumes mid left_now piece → length bytes + length piece ≡ MOST_INPUT + 1 → take MOST_INPUT (bytes ++ piece) ≡ bytes ++ part → ((s : State) (content : List ℕ) → IsAt session s content → IsAfter next s content part × Gave held_mid held_now s (lines_from content part)) → (all : List ℕ) × StoppedAfter start left left_now held held_now all × (length all ≡ MOST_INPUT + 1)
   took_too_much session next left mid left_now held held_mid held_now bytes piece part so_far taken size is takes =
       let h = takes _ _ so_far.after in
-      let G : List ℕ → Type 0 = λ z. Gave held held_now (opening smooth) (lines_from [] z) in (
+      let G : List ℕ → Type 0 = λ z. Gave held held_now start (lines_from [] z) in (
         bytes ++ piece,
         record {
           taken = consumes_both left mid left_now bytes piece so_far.taken taken;
-          gave = subst G (sym is) (gave_front held held_mid held_now (opening smooth) [] bytes part so_far.gave h.1);
+          gave = subst G (sym is) (gave_front held held_mid held_now start [] bytes part so_far.gave h.1);
         },
         omega (arith, length-append bytes piece, size),
       )
@@ -148,82 +154,117 @@ module _ (smooth : Bool) where
 
   -- ---- piece after piece
 
-  pub all_stops : {A : Type 0} (r : Result A Stop) (e : Stop) (session : Session) (left left_now held held_now : Option (List ℕ)) (first before now sink_first sink_before sink_now : ℕ) → IsErrAnd r (λ y. y ≡ e) → first ≤ before → sink_first ≤ sink_before → StopsRun smooth e left left_now held held_now before now sink_before sink_now → AllEnds smooth r session left left_now held held_now first now sink_first sink_now
+  pub all_stops : {A : Type 0} (r : Result A Stop) (e : Stop) (session : Session) (left left_now held held_now : Option (List ℕ)) (first before now sink_first sink_before sink_now : ℕ) → IsErrAnd r (λ y. y ≡ e) → first ≤ before → sink_first ≤ sink_before → StopsRun start e left left_now held held_now before now sink_before sink_now → AllEnds start r session left left_now held held_now first now sink_first sink_now
   all_stops (Ok a) e session left left_now held held_now first before now sink_first sink_before sink_now h l k stops = absurd h
   all_stops (Err y) e session left left_now held held_now first before now sink_first sink_before sink_now h l k stops =
-      let F : Stop → Type 0 = λ z. StopsRun smooth z left left_now held held_now first now sink_first sink_now in
+      let F : Stop → Type 0 = λ z. StopsRun start z left left_now held held_now first now sink_first sink_now in
       subst F (sym h) (stops_later e left left_now held held_now first before now sink_first sink_before sink_now l k stops)
 
-  pub all_taken : (session : Session) (left left_now held held_now : Option (List ℕ)) (bytes : List ℕ) (count : ℕ) → TookPiece smooth session left left_now held held_now bytes count → count ≡ 0 → length bytes + count ≤ MOST_INPUT → (all : List ℕ) × AtEnd smooth session left left_now held held_now all
+  pub all_taken : (session : Session) (left left_now held held_now : Option (List ℕ)) (bytes : List ℕ) (count : ℕ) → TookPiece start session left left_now held held_now bytes count → count ≡ 0 → length bytes + count ≤ MOST_INPUT → (all : List ℕ) × AtEnd start session left left_now held held_now all
   all_taken session left left_now held held_now bytes count took none few =
       (bytes ++ took.piece, record { so_far = took.so_far; few = omega (arith, length-append bytes took.piece, took.size); last = took.last none })
 
-  pub more_taken : (session : Session) (left left_now held held_now : Option (List ℕ)) (bytes : List ℕ) (count taken : ℕ) → TookPiece smooth session left left_now held held_now bytes count → length bytes ≡ taken → (all : List ℕ) × SoFar smooth session left left_now held held_now all × (length all ≡ taken + count)
+  pub more_taken : (session : Session) (left left_now held held_now : Option (List ℕ)) (bytes : List ℕ) (count taken : ℕ) → TookPiece start session left left_now held held_now bytes count → length bytes ≡ taken → (all : List ℕ) × SoFar start session left left_now held held_now all × (length all ≡ taken + count)
   more_taken session left left_now held held_now bytes count taken took size = (bytes ++ took.piece, took.so_far, omega (arith, length-append bytes took.piece, took.size, size))
 
   -- ---- the whole run
 
-  pub run_begins : (session : Session) (left held : Option (List ℕ)) → IsAt session (opening smooth) [] → SoFar smooth session left left held held []
-  run_begins session left held at = record { taken = consumes_nothing left; after = at; gave = gave_nothing held (opening smooth) }
+  pub run_begins : (session : Session) (left held : Option (List ℕ)) → IsAt session start [] → SoFar start session left left held held []
+  run_begins session left held at = record { taken = consumes_nothing left; after = at; gave = gave_nothing held start }
 
-  pub run_without_memory : (r : Result Bool Stop) (left held : Option (List ℕ)) (before sink_before : ℕ) → IsErrAnd r (λ e. e ≡ stop.Memory) → RunEnds smooth r left left held held before before sink_before sink_before
+  pub run_without_memory : (r : Result Bool Stop) (left held : Option (List ℕ)) (before sink_before : ℕ) → IsErrAnd r (λ e. e ≡ stop.Memory) → RunEnds start r left left held held before before sink_before sink_before
   run_without_memory (Ok a) left held before sink_before h = absurd h
   run_without_memory (Err e) left held before sink_before h =
-      let F : Stop → Type 0 = λ z. StopsRun smooth z left left held held before before sink_before sink_before in
-      let stopped : StoppedAmong smooth left left held held [] = record {
+      let F : Stop → Type 0 = λ z. StopsRun start z left left held held before before sink_before sink_before in
+      let stopped : StoppedAmong start left left held held [] = record {
         taken = consumes_nothing left;
         few = omega arith;
-        front = λ more told. ([], front_none (opening smooth) (lines_of (take MOST_INPUT more)), appends_nothing held);
+        front = λ more told. front_to_end held held start (lines_of (take MOST_INPUT more)) ([], front_none start (lines_of (take MOST_INPUT more)) lawful, appends_nothing held);
       } in
       subst F (sym h) ([], stopped)
 
   nothing_more : (left_now : Option (List ℕ)) (more : List ℕ) → IsAtEnd left_now → left_now ≡ Some more → more ≡ []
   nothing_more left_now more last told = let F : Option (List ℕ) → Type 0 = λ o. IsAtEnd o in subst F told last
 
-  among_all : (left left_now held held_now : Option (List ℕ)) (bytes : List ℕ) → Consumes left left_now bytes → IsAtEnd left_now → length bytes ≤ MOST_INPUT → GaveFront held held_now (opening smooth) (lines_of bytes) → StoppedAmong smooth left left_now held held_now bytes
+  among_all : (left left_now held held_now : Option (List ℕ)) (bytes : List ℕ) → Consumes left left_now bytes → IsAtEnd left_now → length bytes ≤ MOST_INPUT → GaveFrontOfAll held held_now start (lines_of bytes) → StoppedAmong start left left_now held held_now bytes
   among_all left left_now held held_now bytes taken last few h = record {
     taken = taken;
     few = omega arith;
     front = λ more told.
         let all : take MOST_INPUT (bytes ++ more) ≡ bytes = ap (λ z. take MOST_INPUT (bytes ++ z)) (nothing_more left_now more last told) ∙ ap (take MOST_INPUT) (append-nil bytes) ∙ short_whole bytes few in
-        let F : List ℕ → Type 0 = λ z. GaveFront held held_now (opening smooth) (lines_of z) in
+        let F : List ℕ → Type 0 = λ z. GaveFrontOfAll held held_now start (lines_of z) in
         subst F (sym all) h;
   }
 
-  stops_at_end : (e : Stop) (left left_now held held_now : Option (List ℕ)) (before now sink_before sink_now : ℕ) (bytes : List ℕ) → Consumes left left_now bytes → IsAtEnd left_now → length bytes ≤ MOST_INPUT → StopsAmong e held held_now sink_before sink_now (opening smooth) (lines_of bytes) → StopsRun smooth e left left_now held held_now before now sink_before sink_now
+  stops_at_end : (e : Stop) (left left_now held held_now : Option (List ℕ)) (before now sink_before sink_now : ℕ) (bytes : List ℕ) → Consumes left left_now bytes → IsAtEnd left_now → length bytes ≤ MOST_INPUT → StopsAmong e held held_now sink_before sink_now start (lines_of bytes) → StopsRun start e left left_now held held_now before now sink_before sink_now
   stops_at_end stop.Source left left_now held held_now before now sink_before sink_now bytes taken last few h = absurd h
-  stops_at_end stop.Sink left left_now held held_now before now sink_before sink_now bytes taken last few h = ((bytes, among_all left left_now held held_now bytes taken last few h.0), h.1)
-  stops_at_end stop.Memory left left_now held held_now before now sink_before sink_now bytes taken last few h = (bytes, among_all left left_now held held_now bytes taken last few h)
+  stops_at_end stop.Sink left left_now held held_now before now sink_before sink_now bytes taken last few h = ((bytes, among_all left left_now held held_now bytes taken last few (front_to_end held held_now start (lines_of bytes) h.0)), h.1)
+  stops_at_end stop.Memory left left_now held held_now before now sink_before sink_now bytes taken last few h = (bytes, among_all left left_now held held_now bytes taken last few (front_to_end held held_now start (lines_of bytes) h))
   stops_at_end stop.Limit left left_now held held_now before now sink_before sink_now bytes taken last few h = absurd h
 
-  pub run_stops_last : (b : Bool) (r : Result Bool Stop) (e : Stop) (session : Session) (left left_now held held_mid held_now : Option (List ℕ)) (before now sink_first sink_before sink_now : ℕ) (bytes : List ℕ) → smooth ≡ b → IsErrAnd r (λ y. y ≡ e) → AtEnd smooth session left left_now held held_mid bytes → sink_first ≤ sink_before → ((s : State) (content : List ℕ) → IsAt session s content → StopsAmong e held_mid held_now sink_before sink_now s (line_if_some content)) → RunEnds b r left left_now held held_now before now sink_first sink_now
+  pub run_stops_last : (b : State) (r : Result Bool Stop) (e : Stop) (session : Session) (left left_now held held_mid held_now : Option (List ℕ)) (before now sink_first sink_before sink_now : ℕ) (bytes : List ℕ) → start ≡ b → IsErrAnd r (λ y. y ≡ e) → AtEnd start session left left_now held held_mid bytes → sink_first ≤ sink_before → ((s : State) (content : List ℕ) → IsAt session s content → StopsAmong e held_mid held_now sink_before sink_now s (line_if_some content)) → RunEnds b r left left_now held held_now before now sink_first sink_now
   run_stops_last b (Ok a) e session left left_now held held_mid held_now before now sink_first sink_before sink_now bytes same h end l stops = absurd h
   run_stops_last b (Err y) e session left left_now held held_mid held_now before now sink_first sink_before sink_now bytes same h end l stops =
       let F : Stop → Type 0 = λ z. StopsRun b z left left_now held held_now before now sink_first sink_now in
-      let H : Bool → Type 0 = λ c. StopsRun c e left left_now held held_now before now sink_first sink_now in
-      let G : List (List ℕ) → Type 0 = λ ls. StopsAmong e held held_now sink_first sink_now (opening smooth) ls in
-      let stop : StopsAmong e held held_now sink_first sink_now (opening smooth) (lines_of bytes) =
-      subst G (sym (lines_at_end bytes)) (stops_behind e held held_mid held_now sink_first sink_before sink_now (opening smooth) (lines_from [] bytes) (line_if_some (rest_from [] bytes)) end.so_far.gave l (stops _ _ end.so_far.after)) in
+      let H : State → Type 0 = λ c. StopsRun c e left left_now held held_now before now sink_first sink_now in
+      let G : List (List ℕ) → Type 0 = λ ls. StopsAmong e held held_now sink_first sink_now start ls in
+      let stop : StopsAmong e held held_now sink_first sink_now start (lines_of bytes) =
+      subst G (sym (lines_at_end bytes)) (stops_behind e held held_mid held_now sink_first sink_before sink_now start (lines_from [] bytes) (line_if_some (rest_from [] bytes)) end.so_far.gave l (stops _ _ end.so_far.after)) in
       subst F (sym h) (subst H same (stops_at_end e left left_now held held_now before now sink_first sink_now bytes end.so_far.taken end.last end.few stop))
 
-  pub ran_to_end : (session : Session) (left left_now held held_mid held_now : Option (List ℕ)) (some_refused : Bool) (bytes : List ℕ) → AtEnd smooth session left left_now held held_mid bytes → ((s : State) (content : List ℕ) → IsAt session s content → Gave held_mid held_now s (line_if_some content)) → ((s : State) (content : List ℕ) → IsAt session s content → some_refused ≡ (after_lines s (line_if_some content)).refused) → (all : List ℕ) × RanToEnd smooth left left_now held held_now some_refused all
-  ran_to_end session left left_now held held_mid held_now some_refused bytes end gives refuses =
+  -- a stop while the reply to the end of the input is given
+  pub run_stops_end : (b : State) (r : Result Bool Stop) (e : Stop) (session : Session) (left left_now held held_mid held_last held_now : Option (List ℕ)) (before now sink_first sink_before sink_now : ℕ) (bytes : List ℕ) → start ≡ b → IsErrAnd r (λ y. y ≡ e) → AtEnd start session left left_now held held_mid bytes → sink_first ≤ sink_before → ((s : State) (content : List ℕ) → IsAt session s content → Gave held_mid held_last s (line_if_some content)) → ((s : State) (content : List ℕ) → IsAt session s content → LinesGiven {A = Unit {0}} (Err e) held_last held_now sink_before sink_now (ending_of (after_lines s (line_if_some content)))) → RunEnds b r left left_now held held_now before now sink_first sink_now
+  run_stops_end b (Ok a) e session left left_now held held_mid held_last held_now before now sink_first sink_before sink_now bytes same h end l gives stops = absurd h
+  run_stops_end b (Err y) e session left left_now held held_mid held_last held_now before now sink_first sink_before sink_now bytes same h end l gives stops =
+      let F : Stop → Type 0 = λ z. StopsRun b z left left_now held held_now before now sink_first sink_now in
+      let H : State → Type 0 = λ c. StopsRun c e left left_now held held_now before now sink_first sink_now in
+      subst F (sym h) (subst H same (at_end e (stops _ _ end.so_far.after)))
+    where
+      last : List (List ℕ)
+      last = line_if_some (rest_from [] bytes)
+
+      here : State
+      here = after_lines (after_lines start (lines_from [] bytes)) last
+
+      all_given : Gave held held_last start (lines_of bytes)
+      all_given =
+          let G : List (List ℕ) → Type 0 = λ ls. Gave held held_last start ls in
+          subst G (sym (lines_at_end bytes)) (gave_more held held_mid held_last start (lines_from [] bytes) last end.so_far.gave (gives _ _ end.so_far.after))
+
+      here_is : here ≡ after_lines start (lines_of bytes)
+      here_is = sym (after_lines-append start (lines_from [] bytes) last) ∙ ap (λ ls. after_lines start ls) (sym (lines_at_end bytes))
+
+      front_here : GrowsByPrefix held_last held_now (ending_of here) → GaveFrontOfAll held held_now start (lines_of bytes)
+      front_here k =
+          let E : State → Type 0 = λ z. GrowsByPrefix held_last held_now (ending_of z) in
+          front_in_ending held held_last held_now start (lines_of bytes) all_given (subst E here_is k)
+
+      at_end : (e : Stop) → LinesGiven {A = Unit {0}} (Err e) held_last held_now sink_before sink_now (ending_of here) → StopsRun start e left left_now held held_now before now sink_first sink_now
+      at_end stop.Source k = absurd k
+      at_end stop.Sink k = ((bytes, among_all left left_now held held_now bytes end.so_far.taken end.last end.few (front_here k.0)), rose_later sink_first sink_before sink_now sink_now l k.1 (omega arith))
+      at_end stop.Memory k = (bytes, among_all left left_now held held_now bytes end.so_far.taken end.last end.few (front_here k))
+      at_end stop.Limit k = absurd k
+
+  pub ran_to_end : (session : Session) (left left_now held held_mid held_last held_now : Option (List ℕ)) (some_refused : Bool) (bytes : List ℕ) → AtEnd start session left left_now held held_mid bytes → ((s : State) (content : List ℕ) → IsAt session s content → Gave held_mid held_last s (line_if_some content)) → ((s : State) (content : List ℕ) → IsAt session s content → Appends held_last held_now (ending_of (after_lines s (line_if_some content)))) → ((s : State) (content : List ℕ) → IsAt session s content → some_refused ≡ has_refused (after_lines s (line_if_some content))) → (all : List ℕ) × RanToEnd start left left_now held held_now some_refused all
+  ran_to_end session left left_now held held_mid held_last held_now some_refused bytes end gives ends refuses =
       let last = line_if_some (rest_from [] bytes) in
-      let F : List (List ℕ) → Type 0 = λ ls. Gave held held_now (opening smooth) ls in (
+      let F : List (List ℕ) → Type 0 = λ ls. Gave held held_last start ls in
+      let all_given : Gave held held_last start (lines_of bytes) = subst F (sym (lines_at_end bytes)) (gave_more held held_mid held_last start (lines_from [] bytes) last end.so_far.gave (gives _ _ end.so_far.after)) in
+      let here_is : after_lines (after_lines start (lines_from [] bytes)) last ≡ after_lines start (lines_of bytes) =
+      sym (after_lines-append start (lines_from [] bytes) last) ∙ ap (λ ls. after_lines start ls) (sym (lines_at_end bytes)) in
+      let E : State → Type 0 = λ z. Appends held_last held_now (ending_of z) in (
         bytes,
         record {
           taken = end.so_far.taken;
           last = end.last;
           few = end.few;
-          gave = subst F (sym (lines_at_end bytes)) (gave_more held held_mid held_now (opening smooth) (lines_from [] bytes) last end.so_far.gave (gives _ _ end.so_far.after));
-          refused = refuses _ _ end.so_far.after
-              ∙ ap (λ (z : State). z.refused) (sym (after_lines-append (opening smooth) (lines_from [] bytes) last))
-              ∙ ap (λ ls. (after_lines (opening smooth) ls).refused) (sym (lines_at_end bytes));
+          gave = gave_to_end held held_last held_now start (lines_of bytes) all_given (subst E here_is (ends _ _ end.so_far.after));
+          refused = refuses _ _ end.so_far.after ∙ ap has_refused here_is;
         },
       )
 
   -- the same for an equal flag
-  pub ran_for : (b : Bool) (left left_now held held_now : Option (List ℕ)) (some_refused : Bool) → smooth ≡ b → (bytes : List ℕ) × RanToEnd smooth left left_now held held_now some_refused bytes → (bytes : List ℕ) × RanToEnd b left left_now held held_now some_refused bytes
+  pub ran_for : (b : State) (left left_now held held_now : Option (List ℕ)) (some_refused : Bool) → start ≡ b → (bytes : List ℕ) × RanToEnd start left left_now held held_now some_refused bytes → (bytes : List ℕ) × RanToEnd b left left_now held held_now some_refused bytes
   ran_for b left left_now held held_now some_refused same h =
-      let F : Bool → Type 0 = λ c. (bytes : List ℕ) × RanToEnd c left left_now held held_now some_refused bytes in
+      let F : State → Type 0 = λ c. (bytes : List ℕ) × RanToEnd c left left_now held held_now some_refused bytes in
       subst F same h

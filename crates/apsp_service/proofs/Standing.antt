@@ -1,11 +1,11 @@
 -- A session goes on standing for the lines that were read.
-use Rattle.std.proofs.Common.{◌≡◌, ℕ, ◌+◌, ◌<◌, ◌^◌, List, [], ◌∷◌, length, length-append, refl, sym, ap, subst, ◌∙◌, arith}
-use Rattle.std.specs.Prelude.{Bool, Option, Some, None, Result, Ok, Err, OnOk}
-use Rattle.apsp_model.specs.Command.{Update, graph_of}
+use Rattle.std.proofs.Common.{◌≡◌, ℕ, ◌+◌, ◌<◌, ◌≤◌, ◌^◌, true, List, [], ◌∷◌, ◌++◌, length, length-append, append-nil, refl, sym, ap, subst, ◌∙◌, arith}
+use Rattle.std.specs.Prelude.{Bool, Option, Some, None, Result, Ok, Err, OnOk, IfOk, IfSome, IsSome, is_some, false}
+use Rattle.apsp_model.specs.Command.{Command, Update, graph_of}
 use Rattle.apsp_model.specs.Graph.{Graph}
 use Rattle.apsp_model.specs.Star.{Star}
 use Rattle.history_engine.specs.Seen.{Seen}
-use Rattle.history_engine.specs.Advance.{Advance}
+use Rattle.history_engine.specs.Advance.{Advance, Stands}
 use Rattle.history_engine.proofs.Moments.{law}
 use Rattle.script_reader.specs.Cutter.{Cutting}
 use Rattle.script_reader.specs.Meaning.{line_of}
@@ -15,14 +15,24 @@ use Rattle.script_reader.specs.declared.Line.TheVariants as line
 use Rattle.version_face.specs.Seen.{Seen as Version}
 use Rattle.apsp_service.specs.declared.stop.Stop.{Stop}
 use Rattle.apsp_service.specs.Certificate.{version_of, version_after, IsTextOf}
-use Rattle.apsp_service.specs.Session.{State, context_of, present_graph, star_with, accepted, counted, updated, after_read, after_line}
+use Rattle.apsp_service.specs.Session.{State, HasReply, HasBlockReply, context_at, context_of, star_with, graph_here, accepted, counted, updated_in, begun_in, fresh_block, asked_in, ended_in, with_updates, after_read, after_line}
+use Rattle.graph_store.specs.Plan.{Plan, with_star, hi_of}
+use Rattle.block_run.specs.declared.asks.Ask.{Ask}
+use Rattle.block_run.specs.declared.answers.Answer.{Answer}
+use Rattle.block_run.specs.Run.{AdvancesBy, CanRun, HasRun}
+use Rattle.apsp_service.specs.Blocks.{Block, last_graph, updates_in, asks_in}
+use Rattle.apsp_service.specs.Replies.{answer_text}
+use Rattle.std.specs.List.{flat_map}
+use Rattle.apsp_service.specs.Lawful.{IsBlockOf, IsLawful}
+use Rattle.apsp_service.proofs.Lawful.{accepted_lawful, here_vertices}
+use Rattle.script_reader.specs.Answer.{Fits}
 use Rattle.apsp_service.specs.declared.session.Session.{Session}
-use Rattle.apsp_service.specs.Giving.{HasNetwork, IsNetworkOf, IsReady, GrowsBy, LinesGiven, CertificateGiven}
+use Rattle.apsp_service.specs.Giving.{HasNetwork, HasInside, IsNetworkOf, IsReady, GrowsBy, LinesGiven, CertificateGiven, vertices_in}
 use Rattle.apsp_service.specs.Standing.{HasState}
 
 -- the state of a session does not hang on the line that is begun
 pub with_line : (session : Session) (cutter : Cutting) (s : State) → HasState session s → HasState (record session { cutter = cutter }) s
-with_line session cutter s h = record { network = h.network; smooth = h.smooth; lines = h.lines; refused = h.refused }
+with_line session cutter s h = record { inside = h.inside; readers = h.readers; smooth = h.smooth; lines = h.lines; refused = h.refused }
 
 pub ready_of : (seen : Option Seen) (s : State) → HasNetwork seen s → s.lines < 2 ^ 40 → IsReady seen
 ready_of None s h few = tt
@@ -31,18 +41,38 @@ ready_of (Some e) s h few = (h.stands.not_spent, omega (arith, h.few, few))
 -- what an accepted line does not change
 record Keeps (s t : State) : Type 0 where
   smooth : t.smooth ≡ s.smooth
+  readers : t.readers ≡ s.readers
   lines : t.lines ≡ s.lines
   refused : t.refused ≡ s.refused
 
 kept_all : (s : State) → Keeps s s
-kept_all s = record { smooth = refl; lines = refl; refused = refl }
+kept_all s = record { smooth = refl; readers = refl; lines = refl; refused = refl }
+
+updated_keeps : (s : State) (o : Option Block) (star : Star) → Keeps s (updated_in s o star)
+updated_keeps s None star = record { smooth = refl; readers = refl; lines = refl; refused = refl }
+updated_keeps s (Some b) star = record { smooth = refl; readers = refl; lines = refl; refused = refl }
+
+begun_keeps : (s : State) (r : Option ℕ) → Keeps s (begun_in s r)
+begun_keeps s None = kept_all s
+begun_keeps s (Some n) = record { smooth = refl; readers = refl; lines = refl; refused = refl }
+
+asked_keeps : (s : State) (o : Option Block) (ask : Ask) → Keeps s (asked_in s o ask)
+asked_keeps s None ask = kept_all s
+asked_keeps s (Some b) ask = record { smooth = refl; readers = refl; lines = refl; refused = refl }
+
+ended_keeps : (s : State) (o : Option Block) → Keeps s (ended_in s o)
+ended_keeps s None = kept_all s
+ended_keeps s (Some b) = record { smooth = refl; readers = refl; lines = refl; refused = refl }
 
 accepted_keeps : (s : State) (l : Line) → Keeps s (accepted s l)
 accepted_keeps s line.Nothing = kept_all s
-accepted_keeps s (line.Vertices n) = record { smooth = refl; lines = refl; refused = refl }
-accepted_keeps s (line.Star star) = record { smooth = refl; lines = refl; refused = refl }
-accepted_keeps s (line.Edge u v w) = record { smooth = refl; lines = refl; refused = refl }
-accepted_keeps s (line.Cut u v) = record { smooth = refl; lines = refl; refused = refl }
+accepted_keeps s (line.Vertices n) = record { smooth = refl; readers = refl; lines = refl; refused = refl }
+accepted_keeps s (line.Star star) = updated_keeps s s.block star
+accepted_keeps s (line.Edge u v w) = updated_keeps s s.block (star_with (graph_here s s.block) u v (Some w))
+accepted_keeps s (line.Cut u v) = updated_keeps s s.block (star_with (graph_here s s.block) u v None)
+accepted_keeps s line.Block = begun_keeps s s.readers
+accepted_keeps s (line.Ask x y since) = asked_keeps s s.block (record { x = x; y = y; since = since })
+accepted_keeps s line.End = ended_keeps s s.block
 accepted_keeps s (line.Dist x y) = kept_all s
 accepted_keeps s (line.Path x y) = kept_all s
 accepted_keeps s (line.Row x) = kept_all s
@@ -50,25 +80,54 @@ accepted_keeps s line.Stats = kept_all s
 accepted_keeps s (line.Age list) = kept_all s
 accepted_keeps s line.Cert = kept_all s
 
-pub line_stands : {E : Type 0} (r : Result (Unit {0}) E) (s : State) (content : List ℕ) (l : Line) (session : Session) → line_of (context_of s) content ≡ Ok l → OnOk r (HasNetwork session.network (accepted (counted s) l)) → session.smooth ≡ s.smooth → session.lines ≡ s.lines + 1 → session.refused ≡ s.refused → OnOk r (HasState session (after_line s content))
-line_stands (Err e) s content l session reading h smooth lines refused = tt
-line_stands (Ok u) s content l session reading h smooth lines refused =
+-- the state after an accepted line
+pub line_stands : (s : State) (content : List ℕ) (l : Line) (session : Session) → line_of (context_of s) content ≡ Ok l → HasInside session.network session.block (accepted (counted s) l) → session.readers ≡ s.readers → session.smooth ≡ s.smooth → session.lines ≡ s.lines + 1 → session.refused ≡ s.refused → HasState session (after_line s content)
+line_stands s content l session reading h readers smooth lines refused =
     let F : Result Line Refusal → Type 0 = λ read. HasState session (after_read s read) in
     let k : Keeps (counted s) (accepted (counted s) l) = accepted_keeps (counted s) l in
-    subst F (sym reading) (record { network = h; smooth = smooth ∙ sym k.smooth; lines = lines ∙ sym k.lines; refused = refused ∙ sym k.refused })
+    subst F (sym reading) (record { inside = h; readers = readers ∙ sym k.readers; smooth = smooth ∙ sym k.smooth; lines = lines ∙ sym k.lines; refused = refused ∙ sym k.refused })
 
--- an update was made
-pub advanced : {E : Type 0} (r : Result (Unit {0}) E) (before after : Seen) (s : State) (star : Star) → IsNetworkOf before s → OnOk r (Advance before (Update star) after) → OnOk r (IsNetworkOf after (updated (counted s) star))
-advanced (Err e) before after s star h a = tt
-advanced (Ok u) before after s star h a = record {
-  vertices = h.vertices ∙ sym a.opening;
-  smooth = a.smooth ∙ h.smooth;
-  stands = law before after (Update star) s.commands a h.stands;
-  few = omega (arith, ap length a.vertices, length-append before.vertices (star.vertex ∷ []), h.few);
-}
+pub line_stands_on : {E : Type 0} (r : Result (Unit {0}) E) (s : State) (content : List ℕ) (l : Line) (session : Session) → line_of (context_of s) content ≡ Ok l → OnOk r (HasInside session.network session.block (accepted (counted s) l)) → session.readers ≡ s.readers → session.smooth ≡ s.smooth → session.lines ≡ s.lines + 1 → session.refused ≡ s.refused → OnOk r (HasState session (after_line s content))
+line_stands_on (Err e) s content l session reading h readers smooth lines refused = tt
+line_stands_on (Ok u) s content l session reading h readers smooth lines refused = line_stands s content l session reading h readers smooth lines refused
+
+-- a refused line
+pub refused_stands : (s : State) (content : List ℕ) (session : Session) (refusal : Refusal) → line_of (context_of s) content ≡ Err refusal → HasInside session.network session.block s → session.readers ≡ s.readers → session.smooth ≡ s.smooth → session.lines ≡ s.lines + 1 → session.refused ≡ true → HasState session (after_line s content)
+refused_stands s content session refusal reading h readers smooth lines refused =
+    let F : Result Line Refusal → Type 0 = λ read. HasState session (after_read s read) in
+    subst F (sym reading) (record {
+      inside = record { network = network session.network h.network; block = h.block; asks = omega (arith, h.asks); lawful = record { most = h.lawful.most; block = h.lawful.block; live = h.lawful.live } };
+      readers = readers;
+      smooth = smooth;
+      lines = lines;
+      refused = refused;
+    })
+  where
+    network : (seen : Option Seen) → HasNetwork seen s → HasNetwork seen (record (counted s) { refused = true })
+    network None k = k
+    network (Some e) k = record { vertices = k.vertices; smooth = k.smooth; stands = k.stands; few = omega (arith, k.few) }
+
+-- ---- what each line does
+
+-- the fits of a line, for the state
+fits_state : (seen : Option Seen) (open_block : Option Block) (readers : Option ℕ) (s : State) (l : Line) → HasInside seen open_block s → Fits (context_at (vertices_in seen) readers open_block) l → Fits (context_at s.vertices readers s.block) l
+fits_state seen open_block readers s l h f =
+    let F : ℕ → Type 0 = λ n. Fits (context_at n readers open_block) l in
+    let G : Option Block → Type 0 = λ o. Fits (context_at s.vertices readers o) l in
+    subst G h.block (subst F (vertices_are seen h.network) f)
+  where
+    vertices_are : (seen : Option Seen) → HasNetwork seen s → vertices_in seen ≡ s.vertices
+    vertices_are None k = sym k.0
+    vertices_are (Some e) k = sym k.vertices
+
+counted_lawful : (s : State) → IsLawful s → IsLawful (counted s)
+counted_lawful s h = record { most = h.most; block = h.block; live = h.live }
+
+lawful_then : (seen : Option Seen) (open_block : Option Block) (readers : Option ℕ) (s : State) (l : Line) → HasInside seen open_block s → Fits (context_at (vertices_in seen) readers open_block) l → IsLawful (accepted (counted s) l)
+lawful_then seen open_block readers s l h f = accepted_lawful (counted s) l (counted_lawful s h.lawful) readers (fits_state seen open_block readers s l h f)
 
 -- the graph that the network has
-graph_is : (e : Seen) (s : State) → IsNetworkOf e s → e.graph ≡ graph_of s.vertices s.commands
+pub graph_is : (e : Seen) (s : State) → IsNetworkOf e s → e.graph ≡ graph_of s.vertices s.commands
 graph_is e s h = h.stands.outline.graph ∙ ap (λ n. graph_of n s.commands) (sym h.vertices)
 
 -- the version that the network has
@@ -82,11 +141,255 @@ certificate_stands r seen e s old new before now is has given =
     let G : Version → Type 0 = λ v. (text : List ℕ) × IsTextOf v text × LinesGiven r old new before now text in
     subst G (version_is e s (subst F is has)) given
 
--- an update of one edge was made
-pub edge_advanced : {E : Type 0} (r : Result (Unit {0}) E) (before after : Seen) (s : State) (u v : ℕ) (w : Option ℕ) → IsNetworkOf before s → OnOk r (Advance before (Update (star_with before.graph u v w)) after) → OnOk r (IsNetworkOf after (updated (counted s) (star_with (present_graph (counted s)) u v w)))
-edge_advanced r before after s u v w h a =
-    let F : Graph → Type 0 = λ g. OnOk r (IsNetworkOf after (updated (counted s) (star_with g u v w))) in
-    subst F (graph_is before s h) (advanced r before after s (star_with before.graph u v w) h a)
+-- ---- the updates of a block
+
+stands_by : (stars : List Star) (before after : Seen) (commands : List Command) → AdvancesBy before stars after → Stands before commands → Stands after (with_updates stars commands)
+stands_by [] before after commands a h = let F : Seen → Type 0 = λ e. Stands e commands in subst F (sym a) h
+stands_by (star ∷ stars) before after commands a h = stands_by stars a.0 after (Update star ∷ commands) a.2 (law before a.0 (Update star) commands a.1 h)
+
+record Moves (before : Seen) (count : ℕ) (after : Seen) : Type 0 where
+  opening : after.opening ≡ before.opening
+  smooth : after.smooth ≡ before.smooth
+  vertices : length after.vertices ≡ length before.vertices + count
+
+moves_by : (stars : List Star) (before after : Seen) → AdvancesBy before stars after → Moves before (length stars) after
+moves_by [] before after a = record { opening = ap (λ (e : Seen). e.opening) a; smooth = ap (λ (e : Seen). e.smooth) a; vertices = omega (arith, ap (λ (e : Seen). length e.vertices) a) }
+moves_by (star ∷ stars) before after a =
+    let m = moves_by stars a.0 after a.2 in
+    record {
+      opening = m.opening ∙ a.1.opening;
+      smooth = m.smooth ∙ a.1.smooth;
+      vertices = omega (arith, m.vertices, ap length a.1.vertices, length-append before.vertices (star.vertex ∷ []));
+    }
+
+-- a block was run
+pub block_ran : (before after : Seen) (s : State) (b : Block) → HasInside (Some before) (Some b) s → AdvancesBy before b.plan.stars after → HasInside (Some after) None (accepted (counted s) line.End)
+block_ran before after s b h a =
+    let F : Option Block → Type 0 = λ o. HasInside (Some after) None (ended_in (counted s) o) in
+    let m = moves_by b.plan.stars before after a in
+    let few : length before.vertices + length b.plan.stars ≤ s.lines = let G : Option Block → Type 0 = λ o. length before.vertices + updates_in o ≤ s.lines in subst G (sym h.block) h.network.few in
+    subst F h.block (record {
+      network = record {
+        vertices = h.network.vertices ∙ sym m.opening;
+        smooth = m.smooth ∙ h.network.smooth;
+        stands = stands_by b.plan.stars before after s.commands a h.network.stands;
+        few = omega (arith, m.vertices, few);
+      };
+      block = refl;
+      asks = omega arith;
+      lawful = record { most = h.lawful.most; block = tt; live = λ none. refl };
+    })
+
+-- ---- lines outside and inside a block
+
+counted_network : (seen : Option Seen) (s : State) → HasNetwork seen s → HasNetwork seen (counted s)
+counted_network None s k = k
+counted_network (Some e) s k = record { vertices = k.vertices; smooth = k.smooth; stands = k.stands; few = omega (arith, k.few) }
+
+-- a line that changes nothing
+pub counted_inside : (seen : Option Seen) (open_block : Option Block) (s : State) → HasInside seen open_block s → HasInside seen open_block (counted s)
+counted_inside seen open_block s h = record { network = counted_network seen s h.network; block = h.block; asks = omega (arith, h.asks); lawful = counted_lawful s h.lawful }
+
+pub updated_outside : {E : Type 0} (r : Result (Unit {0}) E) (before after : Seen) (s : State) (star : Star) → HasInside (Some before) None s → IsLawful (updated_in (counted s) s.block star) → OnOk r (Advance before (Update star) after) → OnOk r (HasInside (Some after) None (updated_in (counted s) s.block star))
+updated_outside (Err e) before after s star h lawful a = tt
+updated_outside (Ok u) before after s star h lawful a =
+    let F : Option Block → Type 0 = λ o. IsLawful (updated_in (counted s) o star) → HasInside (Some after) None (updated_in (counted s) o star) in
+    subst F h.block (λ l. record {
+      network = record {
+        vertices = h.network.vertices ∙ sym a.opening;
+        smooth = a.smooth ∙ h.network.smooth;
+        stands = law before after (Update star) s.commands a h.network.stands;
+        few = omega (arith, ap length a.vertices, length-append before.vertices (star.vertex ∷ []), h.network.few);
+      };
+      block = h.block;
+      asks = omega (arith, h.asks);
+      lawful = l;
+    }) lawful
+
+pub edge_outside : {E : Type 0} (r : Result (Unit {0}) E) (before after : Seen) (s : State) (u v : ℕ) (w : Option ℕ) → HasInside (Some before) None s → IsLawful (updated_in (counted s) s.block (star_with (graph_here (counted s) s.block) u v w)) → OnOk r (Advance before (Update (star_with before.graph u v w)) after) → OnOk r (HasInside (Some after) None (updated_in (counted s) s.block (star_with (graph_here (counted s) s.block) u v w)))
+edge_outside r before after s u v w h lawful a =
+    let G : Option Block → Type 0 = λ o. before.graph ≡ graph_here (counted s) o in
+    let here : before.graph ≡ graph_here (counted s) s.block = subst G h.block (graph_is before s h.network) in
+    let F : Graph → Type 0 = λ g. OnOk r (Advance before (Update (star_with g u v w)) after) in
+    updated_outside r before after s (star_with (graph_here (counted s) s.block) u v w) h lawful (subst F here a)
+
+pub updated_inside : {E : Type 0} (r : Result (Unit {0}) E) (e : Seen) (old new : Block) (s : State) (star : Star) → HasInside (Some e) (Some old) s → IsLawful (updated_in (counted s) s.block star) → OnOk r (new ≡ record old { plan = with_star old.plan star }) → OnOk r (HasInside (Some e) (Some new) (updated_in (counted s) s.block star))
+updated_inside (Err x) e old new s star h lawful is = tt
+updated_inside (Ok u) e old new s star h lawful is =
+    let F : Option Block → Type 0 = λ o. (length e.vertices + updates_in o ≤ s.lines) → (asks_in o ≤ s.lines) → IsLawful (updated_in (counted s) o star) → HasInside (Some e) (Some new) (updated_in (counted s) o star) in
+    subst F h.block (λ few asks l. record {
+      network = record { vertices = h.network.vertices; smooth = h.network.smooth; stands = h.network.stands; few = omega (arith, few, length-append old.plan.stars (star ∷ [])) };
+      block = ap Some is;
+      asks = omega (arith, asks);
+      lawful = l;
+    }) h.network.few h.asks lawful
+
+pub edge_inside : {E : Type 0} (r : Result (Unit {0}) E) (e : Seen) (old new : Block) (s : State) (u v : ℕ) (w : Option ℕ) → HasInside (Some e) (Some old) s → IsLawful (updated_in (counted s) s.block (star_with (graph_here (counted s) s.block) u v w)) → OnOk r (new ≡ record old { plan = with_star old.plan (star_with (last_graph old.plan) u v w) }) → OnOk r (HasInside (Some e) (Some new) (updated_in (counted s) s.block (star_with (graph_here (counted s) s.block) u v w)))
+edge_inside r e old new s u v w h lawful is =
+    let G : Option Block → Type 0 = λ o. last_graph old.plan ≡ graph_here (counted s) o in
+    let here : last_graph old.plan ≡ graph_here (counted s) s.block = subst G h.block refl in
+    let F : Graph → Type 0 = λ g. OnOk r (new ≡ record old { plan = with_star old.plan (star_with g u v w) }) in
+    updated_inside r e old new s (star_with (graph_here (counted s) s.block) u v w) h lawful (subst F here is)
+
+pub asked_inside : {E : Type 0} (r : Result (Unit {0}) E) (e : Seen) (old new : Block) (s : State) (ask : Ask) → HasInside (Some e) (Some old) s → IsLawful (asked_in (counted s) s.block ask) → OnOk r (new ≡ record old { asks = old.asks ++ ask ∷ [] }) → OnOk r (HasInside (Some e) (Some new) (asked_in (counted s) s.block ask))
+asked_inside (Err x) e old new s ask h lawful is = tt
+asked_inside (Ok u) e old new s ask h lawful is =
+    let F : Option Block → Type 0 = λ o. (length e.vertices + updates_in o ≤ s.lines) → (asks_in o ≤ s.lines) → IsLawful (asked_in (counted s) o ask) → HasInside (Some e) (Some new) (asked_in (counted s) o ask) in
+    subst F h.block (λ few asks l. record {
+      network = record { vertices = h.network.vertices; smooth = h.network.smooth; stands = h.network.stands; few = omega (arith, few) };
+      block = ap Some is;
+      asks = omega (arith, asks, length-append old.asks (ask ∷ []));
+      lawful = l;
+    }) h.network.few h.asks lawful
+
+pub asked_outside : (e : Seen) (s : State) (ask : Ask) → HasInside (Some e) None s → HasInside (Some e) None (asked_in (counted s) s.block ask)
+asked_outside e s ask h = let F : Option Block → Type 0 = λ o. HasInside (Some e) None (asked_in (counted s) o ask) in subst F h.block (counted_inside (Some e) None s h)
+
+-- without a block there is nothing to run
+pub none_ran : (seen : Option Seen) (s : State) → HasInside seen None s → HasInside seen None (accepted (counted s) line.End)
+none_ran seen s h = let F : Option Block → Type 0 = λ o. HasInside seen None (ended_in (counted s) o) in subst F h.block (counted_inside seen None s h)
+
+-- a block was begun
+pub begun : (e : Seen) (b : Block) (open_block : Option Block) (s : State) (n : ℕ) → HasInside (Some e) open_block s → s.readers ≡ Some n → b ≡ record { plan = record { start = e.graph; lo = length e.vertices; stars = [] }; asks = [] } → IsLawful (accepted (counted s) line.Block) → HasInside (Some e) (Some b) (accepted (counted s) line.Block)
+begun e b open_block s n h readers is lawful =
+    let F : Option ℕ → Type 0 = λ r. IsLawful (begun_in (counted s) r) → HasInside (Some e) (Some b) (begun_in (counted s) r) in
+    let fresh : b ≡ fresh_block (counted s) = is ∙ (λ i. record { plan = record { start = graph_is e s h.network i; lo = length (h.network.stands.outline.vertices i); stars = [] }; asks = [] }) in
+    subst F (sym readers) (λ l. record {
+      network = record { vertices = h.network.vertices; smooth = h.network.smooth; stands = h.network.stands; few = omega (arith, h.network.few) };
+      block = ap Some fresh;
+      asks = omega arith;
+      lawful = l;
+    }) lawful
+
+pub begun_when : (seen : Option Seen) (open_block : Option Block) (e : Seen) (b : Block) (s : State) (l : Line) (readers : Option ℕ) (start : Graph) (lo : ℕ) → l ≡ line.Block → seen ≡ Some e → is_some readers ≡ true → readers ≡ s.readers → b ≡ record { plan = record { start = start; lo = lo; stars = [] }; asks = [] } → start ≡ e.graph → lo ≡ length e.vertices → Fits (context_at (vertices_in seen) readers open_block) l → HasInside seen open_block s → HasInside (Some e) (Some b) (accepted (counted s) l)
+begun_when seen open_block e b s l readers start lo is se live told fresh graph number fits h =
+    let F : Option Seen → Type 0 = λ z. HasInside z open_block s in
+    let G : Option Seen → Type 0 = λ z. Fits (context_at (vertices_in z) readers open_block) l in
+    let H : Line → Type 0 = λ k. Fits (context_at (vertices_in (Some e)) readers open_block) k in
+    let K : Line → Type 0 = λ k. HasInside (Some e) (Some b) (accepted (counted s) k) in
+    subst K (sym is) (at readers told live (subst F se h) (subst H is (subst G se fits)))
+  where
+    same : b ≡ record { plan = record { start = e.graph; lo = length e.vertices; stars = [] }; asks = [] }
+    same = fresh ∙ (λ i. record { plan = record { start = graph i; lo = number i; stars = [] }; asks = [] })
+
+    at : (rd : Option ℕ) → rd ≡ s.readers → is_some rd ≡ true → HasInside (Some e) open_block s → Fits (context_at (vertices_in (Some e)) readers open_block) line.Block → HasInside (Some e) (Some b) (accepted (counted s) line.Block)
+    at None k l h f = absurd (let no : false ≡ true = l in cc)
+    at (Some n) k l h f = begun e b open_block s n h (sym k) same (lawful_then (Some e) open_block readers s line.Block h f)
+
+pub not_begun : (seen : Option Seen) (open_block : Option Block) (s : State) → HasInside seen open_block s → s.readers ≡ None → HasInside seen open_block (accepted (counted s) line.Block)
+not_begun seen open_block s h none =
+    let F : Option ℕ → Type 0 = λ r. HasInside seen open_block (begun_in (counted s) r) in
+    subst F (sym none) (counted_inside seen open_block s h)
+
+-- what a run of a block leaves, and what it replies
+pub ran_stands : {E : Type 0} (r : Result (List Answer) E) (n : ℕ) (before after : Seen) (s : State) (b : Block) → HasInside (Some before) (Some b) s → HasRun n before b.plan b.asks r after → IfOk r (λ _. HasInside (Some after) None (accepted (counted s) line.End))
+ran_stands (Err e) n before after s b h run = tt
+ran_stands (Ok a) n before after s b h run = block_ran before after s b h run.taken
+
+pub ran_replies : {E : Type 0} (r : Result (List Answer) E) (n : ℕ) (readers : Option ℕ) (before after : Seen) (s : State) (b : Block) → HasInside (Some before) (Some b) s → readers ≡ Some n → HasRun n before b.plan b.asks r after → IfOk r (λ answers. HasBlockReply readers s.block (flat_map answer_text answers))
+ran_replies (Err e) n readers before after s b h some run = tt
+ran_replies (Ok a) n readers before after s b h some run =
+    let F : Option ℕ → Type 0 = λ r. HasBlockReply r s.block (flat_map answer_text a) in
+    let G : Option Block → Type 0 = λ o. HasBlockReply (Some n) o (flat_map answer_text a) in
+    subst F (sym some) (subst G h.block (a, run.answers, refl))
+
+-- the block may be run
+pub can_run : (e : Seen) (s : State) (b : Block) → HasInside (Some e) (Some b) s → CanRun e b.plan b.asks
+can_run e s b h =
+    let F : Option Block → Type 0 = λ o. IfSome o (IsBlockOf s.vertices s.commands) in
+    let k : IsBlockOf s.vertices s.commands b = subst F (sym h.block) h.lawful.block in
+    record {
+      not_spent = h.network.stands.not_spent;
+      start = record { graph = graph_is e s h.network ∙ sym k.start; number = ap length h.network.stands.outline.vertices ∙ sym k.lo };
+      asks_of = k.asks;
+    }
+
+pub some_readers : (seen : Option Seen) (b : Block) (s : State) → HasInside seen (Some b) s → IsSome s.readers
+some_readers seen b s h = at s.readers refl
+  where
+    at : (r : Option ℕ) → s.readers ≡ r → IsSome r
+    at None e = absurd (let k : Some b ≡ None = h.block ∙ h.lawful.live e in cc)
+    at (Some n) e = refl
+
+-- a run for a number of readers is one for an equal number
+pub run_for : {E : Type 0} (n x : ℕ) (before after : Seen) (p : Plan) (asks : List Ask) (r : Result (List Answer) E) → Some n ≡ Some x → HasRun n before p asks r after → HasRun x before p asks r after
+run_for n x before after p asks r is run =
+    let same : n ≡ x = cc in
+    let F : ℕ → Type 0 = λ k. HasRun k before p asks r after in
+    subst F same run
+
+pub inside_as : (seen : Option Seen) (open_block : Option Block) (e : Seen) (b : Block) (s : State) → seen ≡ Some e → open_block ≡ Some b → HasInside seen open_block s → HasInside (Some e) (Some b) s
+inside_as seen open_block e b s se ob h =
+    let F : Option Seen → Type 0 = λ z. HasInside z open_block s in
+    let G : Option Block → Type 0 = λ o. HasInside (Some e) o s in
+    subst G ob (subst F se h)
+
+-- the end of a block, where the session before it is that of some state
+module _ {E : Type 0} (r : Result (List Answer) E) (seen : Option Seen) (open_block : Option Block) (readers : Option ℕ) (before after : Seen) (b : Block) (s0 s : State) (was : HasInside seen open_block s0) (told : s0.readers ≡ readers) (se : seen ≡ Some before) (ob : open_block ≡ Some b) (run : (x : ℕ) → readers ≡ Some x → HasRun x before b.plan b.asks r after) (h : HasInside seen open_block s) where
+  pub end_stands : (left : Option Block) → left ≡ None → IfOk r (λ _. HasInside (Some after) left (accepted (counted s) line.End))
+  end_stands left none = at readers refl
+    where
+      at : (rd : Option ℕ) → readers ≡ rd → IfOk r (λ _. HasInside (Some after) left (accepted (counted s) line.End))
+      at None e = absurd (let k : Some b ≡ None = sym ob ∙ was.block ∙ was.lawful.live (told ∙ e) in cc)
+      at (Some n) e =
+          let F : Option Block → Type 0 = λ o. IfOk r (λ _. HasInside (Some after) o (accepted (counted s) line.End)) in
+          subst F (sym none) (ran_stands r n before after s b (inside_as seen open_block before b s se ob h) (run n e))
+
+  pub end_replies : IfOk r (λ answers. HasBlockReply readers s.block (flat_map answer_text answers))
+  end_replies = at readers refl
+    where
+      at : (rd : Option ℕ) → readers ≡ rd → IfOk r (λ answers. HasBlockReply readers s.block (flat_map answer_text answers))
+      at None e = absurd (let k : Some b ≡ None = sym ob ∙ was.block ∙ was.lawful.live (told ∙ e) in cc)
+      at (Some n) e = ran_replies r n readers before after s b (inside_as seen open_block before b s se ob h) e (run n e)
+
+-- what the open block needs to know of a line
+pub block_vertices : (seen : Option Seen) (open_block : Option Block) (e : Seen) (b : Block) (s : State) → seen ≡ Some e → open_block ≡ Some b → HasInside seen open_block s → (last_graph b.plan).vertices ≡ e.opening
+block_vertices seen open_block e b s se ob was =
+    let h = inside_as seen open_block e b s se ob was in
+    let F : Option Block → Type 0 = λ o. (graph_here s o).vertices ≡ s.vertices in
+    subst F (sym h.block) (here_vertices s h.lawful) ∙ h.network.vertices
+
+pub fits_in : (seen : Option Seen) (open_block : Option Block) (readers : Option ℕ) (e : Seen) (b : Block) (l : Line) → seen ≡ Some e → open_block ≡ Some b → (last_graph b.plan).vertices ≡ e.opening → Fits (context_at (vertices_in seen) readers open_block) l → Fits (context_at (last_graph b.plan).vertices readers (Some b)) l
+fits_in seen open_block readers e b l se ob same f =
+    let F : Option Seen → Type 0 = λ z. Fits (context_at (vertices_in z) readers open_block) l in
+    let G : Option Block → Type 0 = λ o. Fits (context_at e.opening readers o) l in
+    let H : ℕ → Type 0 = λ n. Fits (context_at n readers (Some b)) l in
+    subst H (sym same) (subst G ob (subst F se f))
+
+pub lawful_at : (seen : Seen) (open_block : Option Block) (readers : Option ℕ) (s : State) (l : Line) → HasInside (Some seen) open_block s → Fits (context_at seen.opening readers open_block) l → IsLawful (accepted (counted s) l)
+lawful_at seen open_block readers s l h f = lawful_then (Some seen) open_block readers s l h f
+
+pub lawful_inside : (e : Seen) (b : Block) (readers : Option ℕ) (s : State) (l : Line) → HasInside (Some e) (Some b) s → Fits (context_at (last_graph b.plan).vertices readers (Some b)) l → IsLawful (accepted (counted s) l)
+lawful_inside e b readers s l h f =
+    let F : ℕ → Type 0 = λ n. Fits (context_at n readers (Some b)) l in
+    lawful_then (Some e) (Some b) readers s l h (subst F (block_vertices (Some e) (Some b) e b s refl refl h) f)
+
+-- the plan of the open block has room for one update more
+pub room_in : (seen : Option Seen) (open_block : Option Block) (e : Seen) (b : Block) (s : State) → seen ≡ Some e → open_block ≡ Some b → HasInside seen open_block s → s.lines < 2 ^ 40 → hi_of b.plan < 2 ^ 40
+room_in seen open_block e b s se ob was few_lines =
+    let h = inside_as seen open_block e b s se ob was in
+    let F : Option Block → Type 0 = λ o. IfSome o (IsBlockOf s.vertices s.commands) in
+    let G : Option Block → Type 0 = λ o. length e.vertices + updates_in o ≤ s.lines in
+    let k : IsBlockOf s.vertices s.commands b = subst F (sym h.block) h.lawful.block in
+    let few : length e.vertices + length b.plan.stars ≤ s.lines = subst G (sym h.block) h.network.few in
+    omega (arith, few, few_lines, ap length h.network.stands.outline.vertices, k.lo)
+
+-- a line that fits in a block has no reply
+pub silent_inside : (n m : ℕ) (smooth : Bool) (commands : List Command) (readers : Option ℕ) (b : Block) (l : Line) → Fits (context_at n readers (Some b)) l → HasReply m smooth commands l []
+silent_inside n m smooth commands readers b line.Nothing f = refl
+silent_inside n m smooth commands readers b (line.Vertices k) f = refl
+silent_inside n m smooth commands readers b (line.Star star) f = refl
+silent_inside n m smooth commands readers b (line.Edge u v w) f = refl
+silent_inside n m smooth commands readers b (line.Cut u v) f = refl
+silent_inside n m smooth commands readers b (line.Dist x y) f = absurd (let no : true ≡ false = f.0 in cc)
+silent_inside n m smooth commands readers b (line.Path x y) f = absurd (let no : true ≡ false = f.0 in cc)
+silent_inside n m smooth commands readers b (line.Row x) f = absurd (let no : true ≡ false = f.0 in cc)
+silent_inside n m smooth commands readers b line.Stats f = absurd (let no : true ≡ false = f.0 in cc)
+silent_inside n m smooth commands readers b (line.Age list) f = absurd (let no : true ≡ false = f.0 in cc)
+silent_inside n m smooth commands readers b line.Cert f = absurd (let no : true ≡ false = f.0 in cc)
+silent_inside n m smooth commands readers b line.Block f = refl
+silent_inside n m smooth commands readers b (line.Ask x y since) f = refl
+silent_inside n m smooth commands readers b line.End f = refl
 
 -- what is said of the network's number of vertices and smoothing holds of those of the state
 pub of_network : {E : Type 0} (r : Result (Unit {0}) E) (P : ℕ → Bool → List ℕ → Type 0) (e : Seen) (s : State) (old new : List ℕ) → IsNetworkOf e s → OnOk r (GrowsBy (P e.opening e.smooth) old new) → OnOk r (GrowsBy (P s.vertices s.smooth) old new)
@@ -94,3 +397,8 @@ of_network r P e s old new h grows =
     let F : ℕ → Type 0 = λ n. OnOk r (GrowsBy (P n e.smooth) old new) in
     let G : Bool → Type 0 = λ b. OnOk r (GrowsBy (P s.vertices b) old new) in
     subst G h.smooth (subst F (sym h.vertices) grows)
+
+-- a text grows by a reply that is empty
+pub grows_by_none : {E : Type 0} (r : Result (Unit {0}) E) (P : List ℕ → Type 0) (text : List ℕ) → P [] → OnOk r (GrowsBy P text text)
+grows_by_none (Err e) P text h = tt
+grows_by_none (Ok u) P text h = ([], h, sym (append-nil text))

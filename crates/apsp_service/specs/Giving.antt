@@ -1,5 +1,6 @@
 -- What a session gives to a sink, and how it stops.
-use Rattle.std.specs.Prelude.{◌≡◌, ℕ, ◌<◌, ◌≤◌, ◌^◌, ⊤, List, [], ◌++◌, length, false, Option, Some, None, Result, Ok, Err}
+use Rattle.std.specs.Prelude.{◌≡◌, ℕ, ◌+◌, ◌<◌, ◌≤◌, ◌^◌, ⊤, List, [], ◌++◌, length, false, Option, Some, None, Result, Ok, Err}
+use Rattle.std.specs.List.{flat_map}
 use Rattle.std.specs.Io.KnownBytes.{Appends}
 use Rattle.apsp_io.specs.Streams.{Rose, GrowsByPrefix}
 use Rattle.apsp_io.specs.declared.sink.GiveError.{GiveError}
@@ -9,7 +10,10 @@ use Rattle.history_engine.specs.Advance.{Stands}
 use Rattle.script_reader.specs.Meaning.{line_of}
 use Rattle.script_reader.specs.declared.Line.TheVariants as line
 use Rattle.apsp_service.specs.Certificate.{IsCertReply}
-use Rattle.apsp_service.specs.Session.{State, context_of, LineHasReply, HaveReplies}
+use Rattle.apsp_service.specs.Replies.{answer_text}
+use Rattle.apsp_service.specs.Session.{State, context_of, LineHasReply, HaveReplies, HaveAllReplies}
+use Rattle.apsp_service.specs.Blocks.{Block, updates_in, asks_in}
+use Rattle.apsp_service.specs.Lawful.{IsLawful}
 use Rattle.apsp_service.specs.declared.session.Reply.{Reply}
 use Rattle.apsp_service.specs.declared.session.Reply.TheVariants as reply
 use Rattle.apsp_service.specs.declared.stop.Stop.{Stop}
@@ -26,6 +30,14 @@ IsFrontOfReplies s lines front = (rest : List ℕ) × HaveReplies s lines (front
 -- the sink got a front of them
 abbrev pub GaveFront : Option (List ℕ) → Option (List ℕ) → State → List (List ℕ) → Type 0
 GaveFront old new s lines = (front : List ℕ) × IsFrontOfReplies s lines front × Appends old new front
+
+-- the sink got all replies to these lines and to the end of the input, or a front of them
+abbrev pub GaveAll : Option (List ℕ) → Option (List ℕ) → State → List (List ℕ) → Type 0
+GaveAll old new s lines = (text : List ℕ) × HaveAllReplies s lines text × Appends old new text
+
+abbrev pub GaveFrontOfAll : Option (List ℕ) → Option (List ℕ) → State → List (List ℕ) → Type 0
+GaveFrontOfAll old new s lines =
+    (front : List ℕ) × ((rest : List ℕ) × HaveAllReplies s lines (front ++ rest)) × Appends old new front
 
 -- what a stop while these lines are answered leaves
 abbrev pub StopsAmong : Stop → Option (List ℕ) → Option (List ℕ) → ℕ → ℕ → State → List (List ℕ) → Type 0
@@ -66,22 +78,30 @@ abbrev pub CertificateGiven : {A : Type 0} → Result A Stop → Option (List �
 CertificateGiven result old new before now s =
     (text : List ℕ) × IsCertReply s.vertices s.commands text × LinesGiven result old new before now text
 
--- the reply to a line is this text, or it is a certificate
+-- the reply to a line is this text, or it is a certificate, or these answers are
 abbrev pub IsRepliedBy : Reply → State → List ℕ → List ℕ → Type 0
 IsRepliedBy reply.Text s content text = LineHasReply s content text
 IsRepliedBy reply.Certificate s content text = line_of (context_of s) content ≡ Ok line.Cert
+IsRepliedBy (reply.Answers answers) s content text = LineHasReply s content (flat_map answer_text answers)
 
--- the engine behind the session stands for the commands, of which there are no more than lines; before the
--- line `vertices` there is none
+-- the engine behind the session stands for the commands, of which there are no more than lines, with the
+-- updates of the open block; before the line `vertices` there is none
 pub record IsNetworkOf (e : Seen) (s : State) : Type 0 where
   pub vertices : s.vertices ≡ e.opening
   pub smooth : e.smooth ≡ s.smooth
   pub stands : Stands e s.commands
-  pub few : length e.vertices ≤ s.lines
+  pub few : length e.vertices + updates_in s.block ≤ s.lines
 
 abbrev pub HasNetwork : Option Seen → State → Type 0
-HasNetwork None s = (s.vertices ≡ 0) × (s.commands ≡ [])
+HasNetwork None s = (s.vertices ≡ 0) × (s.commands ≡ []) × (s.block ≡ None)
 HasNetwork (Some e) s = IsNetworkOf e s
+
+-- the engine and the block of the session are those of the state
+pub record HasInside (seen : Option Seen) (open_block : Option Block) (s : State) : Type 0 where
+  pub network : HasNetwork seen s
+  pub block : open_block ≡ s.block
+  pub asks : asks_in s.block ≤ s.lines
+  pub lawful : IsLawful s
 
 abbrev pub vertices_in : Option Seen → ℕ
 vertices_in None = 0

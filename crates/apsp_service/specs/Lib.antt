@@ -8,7 +8,10 @@ pub mod Load
 pub mod Replies
 pub mod Begun
 pub mod Words
+pub mod Blocks
 pub mod Session
+pub mod Lawful
+pub mod BlockInside
 pub mod Giving
 pub mod Standing
 pub mod Running

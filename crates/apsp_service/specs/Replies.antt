@@ -1,9 +1,10 @@
 -- The texts of replies: each is one line.
-use Rattle.std.specs.Prelude.{ℕ, List, ◌++◌, Option, Some, None, codes}
+use Rattle.std.specs.Prelude.{ℕ, List, [], ◌∷◌, ◌++◌, Option, Some, None, codes}
 use Rattle.std.specs.List.{flat_map}
 use Rattle.std.specs.Fmt.{decimal}
 use Rattle.apsp_model.specs.Graph.{Graph}
 use Rattle.apsp_model.specs.Walk.{weight_of}
+use Rattle.block_run.specs.declared.answers.Answer.{Answer}
 use Rattle.apsp_model.specs.Counts.{Counts}
 
 -- a number behind a space
@@ -45,3 +46,11 @@ age_text list birth = codes "age" ++ flat_map number_text list ++ birth_text bir
 -- the refusal of the line with this number
 abbrev pub error_text : ℕ → ℕ → ℕ → List ℕ
 error_text line code place = codes "line " ++ decimal line ++ codes " error " ++ decimal code ++ codes " at " ++ decimal place ++ codes "\n"
+
+-- the walk of an answer behind its weight; a walk has at least one vertex
+abbrev pub answer_walk_text : ℕ → List ℕ → List ℕ
+answer_walk_text dist [] = codes " none"
+answer_walk_text dist (v ∷ walk) = number_text dist ++ codes " walk" ++ flat_map number_text (v ∷ walk)
+
+abbrev pub answer_text : Answer → List ℕ
+answer_text a = codes "at " ++ decimal a.number ++ codes " path " ++ decimal a.x ++ codes " " ++ decimal a.y ++ answer_walk_text a.dist a.walk ++ codes "\n"

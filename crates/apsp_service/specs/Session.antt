@@ -1,6 +1,7 @@
 -- The session: what is replied to the lines of an input, and with which status it ends.
-use Rattle.std.specs.Prelude.{◌≡◌, ℕ, ◌+◌, Bool, true, false, List, [], ◌∷◌, ◌++◌, Option, Some, None, Result, Ok, Err, if◌then◌else◌}
-use Rattle.apsp_model.specs.Command.{Command, Update, graph_of}
+use Rattle.std.specs.Prelude.{◌≡◌, ℕ, ◌+◌, Bool, true, false, List, [], ◌∷◌, ◌++◌, length, is_some, ◌||◌, Option, Some, None, Result, Ok, Err, if◌then◌else◌}
+use Rattle.std.specs.List.{flat_map}
+use Rattle.apsp_model.specs.Command.{Command, Update, graph_of, vertices_of}
 use Rattle.apsp_model.specs.Graph.{Graph}
 use Rattle.apsp_model.specs.Star.{Star, star_at}
 use Rattle.graph_store.specs.Edges.{with_maybe_edge}
@@ -19,29 +20,88 @@ use Rattle.apsp_service.specs.Age.{IsAgeReply}
 use Rattle.apsp_service.specs.Certificate.{IsCertReply}
 use Rattle.apsp_service.specs.Check.{IsChecked}
 use Rattle.apsp_service.specs.Load.{IsLoadReply}
-use Rattle.apsp_service.specs.Replies.{error_text}
+use Rattle.apsp_service.specs.Replies.{error_text, answer_text}
+use Rattle.graph_store.specs.Plan.{Plan, with_star}
+use Rattle.apsp_service.specs.Blocks.{Block, last_graph, updates_in, asks_in}
+use Rattle.block_run.specs.Answers.{BlockReply}
+use Rattle.block_run.specs.declared.asks.Ask.{Ask}
+use Rattle.block_run.specs.declared.answers.Answer.{Answer}
+use Rattle.script_reader.specs.declared.code.TheConstants.{OPEN_BLOCK}
 
--- after some lines: the number of vertices, 0 before the line `vertices`; whether smoothing is on; the
--- commands so far, the latest first; how many lines there were; and whether one of them was refused
+-- after some lines: the number of vertices, 0 before the line `vertices`; whether smoothing is on; how many
+-- readers a block has, and none where there are no blocks; the commands so far, the latest first; the block
+-- that is open; how many lines there were; and whether one of them was refused
 pub record State : Type 0 where
   pub vertices : ℕ
   pub smooth : Bool
+  pub readers : Option ℕ
   pub commands : List Command
+  pub block : Option Block
   pub lines : ℕ
   pub refused : Bool
 
-abbrev pub opening : Bool → State
-opening smooth = record { vertices = 0; smooth = smooth; commands = []; lines = 0; refused = false }
+abbrev pub opening : Option ℕ → Bool → State
+opening readers smooth = record {
+  vertices = 0;
+  smooth = smooth;
+  readers = readers;
+  commands = [];
+  block = None;
+  lines = 0;
+  refused = false;
+}
+
+abbrev pub context_at : ℕ → Option ℕ → Option Block → Context
+context_at n readers block = record {
+  vertices = n;
+  live = is_some readers;
+  inside = is_some block;
+  updates = updates_in block;
+  asks = asks_in block;
+}
 
 abbrev pub context_of : State → Context
-context_of s = record { vertices = s.vertices; live = false; inside = false; updates = 0; asks = 0 }
+context_of s = context_at s.vertices s.readers s.block
 
 -- the graph after the commands so far
 abbrev pub present_graph : State → Graph
 present_graph s = graph_of s.vertices s.commands
 
+-- the graph that the next update changes: in a block it is that after the block's updates so far
+abbrev pub graph_here : State → Option Block → Graph
+graph_here s None = present_graph s
+graph_here s (Some b) = last_graph b.plan
+
+-- an update outside a block is a command, and in a block it is put behind the plan
+abbrev pub updated_in : State → Option Block → Star → State
+updated_in s None star = record s { commands = Update star ∷ s.commands }
+updated_in s (Some b) star = record s { block = Some (record b { plan = with_star b.plan star }) }
+
 abbrev pub updated : State → Star → State
-updated s star = record s { commands = Update star ∷ s.commands }
+updated s star = updated_in s s.block star
+
+-- a block that has nothing yet
+abbrev pub fresh_block : State → Block
+fresh_block s = record { plan = record { start = present_graph s; lo = length (vertices_of s.commands); stars = [] }; asks = [] }
+
+-- a mode without blocks begins none; its lines are refused there
+abbrev pub begun_in : State → Option ℕ → State
+begun_in s None = s
+begun_in s (Some readers) = record s { block = Some (fresh_block s) }
+
+abbrev pub asked_in : State → Option Block → Ask → State
+asked_in s None ask = s
+asked_in s (Some b) ask = record s { block = Some (record b { asks = b.asks ++ ask ∷ [] }) }
+
+-- the commands with the updates of these stars behind them
+abbrev pub with_updates : List Star → List Command → List Command
+with_updates [] commands = commands
+with_updates (star ∷ stars) commands = with_updates stars (Update star ∷ commands)
+
+-- a block that is run appends its updates to the commands, whatever was answered
+abbrev pub ended_in : State → Option Block → State
+ended_in s None = s
+ended_in s (Some b) = record s { commands = with_updates b.plan.stars s.commands; block = None }
 
 -- the star that u has, with the edge to v of this weight or without it
 abbrev pub star_with : Graph → ℕ → ℕ → Option ℕ → Star
@@ -50,10 +110,13 @@ star_with g u v w = with_maybe_edge (star_at g u) (u, v) w
 -- what an accepted line changes
 abbrev pub accepted : State → Line → State
 accepted s line.Nothing = s
-accepted s (line.Vertices n) = record s { vertices = n; commands = [] }
+accepted s (line.Vertices n) = record s { vertices = n; commands = []; block = None }
 accepted s (line.Star star) = updated s star
-accepted s (line.Edge u v w) = updated s (star_with (present_graph s) u v (Some w))
-accepted s (line.Cut u v) = updated s (star_with (present_graph s) u v None)
+accepted s (line.Edge u v w) = updated s (star_with (graph_here s s.block) u v (Some w))
+accepted s (line.Cut u v) = updated s (star_with (graph_here s s.block) u v None)
+accepted s line.Block = begun_in s s.readers
+accepted s (line.Ask x y since) = asked_in s s.block (record { x = x; y = y; since = since })
+accepted s line.End = ended_in s s.block
 accepted s _ = s
 
 abbrev pub counted : State → State
@@ -77,8 +140,18 @@ HasReply n smooth commands (line.Age list) text = IsAgeReply n smooth commands l
 HasReply n smooth commands line.Cert text = IsCertReply n commands text
 HasReply n smooth commands _ text = text ≡ []
 
+-- the reply to a block, where so many readers answer it: answers that its questions may get
+abbrev pub HasBlockReply : Option ℕ → Option Block → List ℕ → Type 0
+HasBlockReply (Some readers) (Some b) text =
+    (answers : List Answer) × BlockReply b.plan b.asks readers answers × (text ≡ flat_map answer_text answers)
+HasBlockReply _ _ text = text ≡ []
+
+abbrev pub HasLineReply : State → Line → List ℕ → Type 0
+HasLineReply s line.End text = HasBlockReply s.readers s.block text
+HasLineReply s l text = HasReply s.vertices s.smooth s.commands l text
+
 abbrev pub HasAnswer : State → Result Line Refusal → List ℕ → Type 0
-HasAnswer s (Ok l) text = HasReply s.vertices s.smooth s.commands l text
+HasAnswer s (Ok l) text = HasLineReply s l text
 HasAnswer s (Err refusal) text = text ≡ error_text (s.lines + 1) refusal.code refusal.place
 
 abbrev pub LineHasReply : State → List ℕ → List ℕ → Type 0
@@ -93,16 +166,43 @@ abbrev pub after_lines : State → List (List ℕ) → State
 after_lines s [] = s
 after_lines s (bytes ∷ lines) = after_lines (after_line s bytes) lines
 
--- 1 where some line was refused
+-- the reply to the end of the input: a block that is open there is not run
+abbrev pub ending_in : Option Block → ℕ → List ℕ
+ending_in None lines = []
+ending_in (Some b) lines = error_text (lines + 1) OPEN_BLOCK 0
+
+abbrev pub ending_of : State → List ℕ
+ending_of s = ending_in s.block s.lines
+
+-- the replies to all lines and to the end of the input
+abbrev pub HaveAllReplies : State → List (List ℕ) → List ℕ → Type 0
+HaveAllReplies s lines text = (replies : List ℕ) × HaveReplies s lines replies × (text ≡ replies ++ ending_of (after_lines s lines))
+
+-- 1 where some line was refused, or a block was open at the end
+abbrev pub has_refused : State → Bool
+has_refused s = s.refused || is_some s.block
+
 abbrev pub status_of : State → ℕ
-status_of s = if s.refused then 1 else 0
+status_of s = if has_refused s then 1 else 0
+
+-- the session over the lines of an input that begins in this state
+abbrev pub HasSession : State → List ℕ → List ℕ → ℕ → Type 0
+HasSession start bytes text status =
+    HaveAllReplies start (lines_of bytes) text × (status ≡ status_of (after_lines start (lines_of bytes)))
 
 -- an input of these bytes has this text and this status
 abbrev pub Session : Mode → List ℕ → List ℕ → ℕ → Type 0
-Session (mode.Run workers smooth) bytes text status =
-    HaveReplies (opening smooth) (lines_of bytes) text × (status ≡ status_of (after_lines (opening smooth) (lines_of bytes)))
+Session (mode.Run workers smooth) bytes text status = HasSession (opening None smooth) bytes text status
+Session (mode.Live workers readers slots smooth) bytes text status = HasSession (opening (Some readers) smooth) bytes text status
 Session mode.Check bytes text status = IsChecked bytes text status
 Session (mode.Load n seed workers) bytes text status = IsLoadReply n seed text × (status ≡ 0)
+
+-- whether the answers of a mode may hang on the schedule
+abbrev pub has_blocks : Mode → Bool
+has_blocks (mode.Run workers smooth) = false
+has_blocks (mode.Live workers readers slots smooth) = true
+has_blocks mode.Check = false
+has_blocks (mode.Load n seed workers) = false
 
 -- there is a text and a status that the session has for these bytes, and no other
 pub record HasOneText (mode : Mode) (bytes : List ℕ) : Type 0 where
@@ -111,8 +211,16 @@ pub record HasOneText (mode : Mode) (bytes : List ℕ) : Type 0 where
   pub session : Session mode bytes text status
   pub only : (other : List ℕ) (ended : ℕ) → Session mode bytes other ended → (other ≡ text) × (ended ≡ status)
 
+-- there is a text that the session has for these bytes, and with each text it has the same status
+pub record HasOneStatus (mode : Mode) (bytes : List ℕ) : Type 0 where
+  pub text : List ℕ
+  pub status : ℕ
+  pub session : Session mode bytes text status
+  pub only : (other : List ℕ) (ended : ℕ) → Session mode bytes other ended → ended ≡ status
+
 -- the replies to whole lines alone; the modes without lines have none before their end
 abbrev pub HasWholeReplies : Mode → List ℕ → List ℕ → Type 0
-HasWholeReplies (mode.Run workers smooth) bytes text = HaveReplies (opening smooth) (whole_lines bytes) text
+HasWholeReplies (mode.Run workers smooth) bytes text = HaveReplies (opening None smooth) (whole_lines bytes) text
+HasWholeReplies (mode.Live workers readers slots smooth) bytes text = HaveReplies (opening (Some readers) smooth) (whole_lines bytes) text
 HasWholeReplies mode.Check bytes text = text ≡ []
 HasWholeReplies (mode.Load n seed workers) bytes text = text ≡ []

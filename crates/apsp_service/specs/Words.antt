@@ -5,11 +5,18 @@ use Rattle.script_reader.specs.Numbers.{number_of}
 use Rattle.apsp_service.specs.declared.words.Mode.{Mode}
 use Rattle.apsp_service.specs.declared.words.Mode.TheVariants as mode
 use Rattle.apsp_service.specs.declared.words.Options.{Options}
-use Rattle.apsp_service.specs.declared.words.TheConstants.{MOST_WORKERS, WORKERS, MOST_READERS, LEAST_SLOTS, MOST_SLOTS, LEAST_DRAWN, MOST_DRAWN, MOST_DIGITS}
+use Rattle.apsp_service.specs.declared.words.TheConstants.{MOST_WORKERS, WORKERS, MOST_READERS, READERS, LEAST_SLOTS, MOST_SLOTS, SLOTS, LEAST_DRAWN, MOST_DRAWN, MOST_DIGITS}
 
 -- how many workers there may be
 abbrev pub IsWorkerCount : ℕ → Type 0
 IsWorkerCount workers = (1 ≤ workers) × (workers ≤ MOST_WORKERS)
+
+-- how many readers and slots of a block there may be
+abbrev pub IsReaderCount : ℕ → Type 0
+IsReaderCount readers = (1 ≤ readers) × (readers ≤ MOST_READERS)
+
+abbrev pub IsSlotCount : ℕ → Type 0
+IsSlotCount slots = (LEAST_SLOTS ≤ slots) × (slots ≤ MOST_SLOTS)
 
 -- how many vertices generated input may have
 abbrev pub IsLoadSize : ℕ → Type 0
@@ -18,6 +25,7 @@ IsLoadSize n = (LEAST_DRAWN ≤ n) × (n ≤ MOST_DRAWN)
 -- the numbers of a mode are in their ranges
 abbrev pub HasWorkers : Mode → Type 0
 HasWorkers (mode.Run workers smooth) = IsWorkerCount workers
+HasWorkers (mode.Live workers readers slots smooth) = IsWorkerCount workers × IsReaderCount readers × IsSlotCount slots
 HasWorkers mode.Check = ⊤
 HasWorkers (mode.Load n seed workers) = IsLoadSize n × IsWorkerCount workers
 
@@ -34,9 +42,9 @@ number_in least most word =
 abbrev pub once : {A : Type 0} → Bool → Option A → Option A
 once given option = if given then None else option
 
--- if a number of workers is given, it is one that there may be
+-- the numbers that are given are ones that there may be
 abbrev pub MayWork : Options → Type 0
-MayWork o = IfSome o.workers IsWorkerCount
+MayWork o = IfSome o.workers IsWorkerCount × IfSome o.readers IsReaderCount × IfSome o.slots IsSlotCount
 
 abbrev pub no_options : Options
 no_options = record { workers = None; readers = None; slots = None; smooth = false }
@@ -70,6 +78,14 @@ run_with o =
 abbrev pub run_of : List (List ℕ) → Option Mode
 run_of words = option_and_then run_with (options_from no_options words)
 
+-- what the options behind the mode `live` say
+abbrev pub live_with : Options → Option Mode
+live_with o =
+    Some (mode.Live (unwrap_or o.workers WORKERS) (unwrap_or o.readers READERS) (unwrap_or o.slots SLOTS) o.smooth)
+
+abbrev pub live_of : List (List ℕ) → Option Mode
+live_of words = option_and_then live_with (options_from no_options words)
+
 -- the mode `check` has no options
 abbrev pub check_of : List (List ℕ) → Option Mode
 check_of [] = Some mode.Check
@@ -95,5 +111,6 @@ abbrev pub mode_of : List (List ℕ) → Option Mode
 mode_of [] = run_of []
 mode_of (word ∷ rest) =
     if bytes_eq word (codes "run") then run_of rest
+    else (if bytes_eq word (codes "live") then live_of rest
     else (if bytes_eq word (codes "check") then check_of rest
-    else (if bytes_eq word (codes "load") then load_of rest else None))
+    else (if bytes_eq word (codes "load") then load_of rest else None)))

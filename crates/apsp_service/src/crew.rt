@@ -1,11 +1,16 @@
 //! Who makes the updates.
 
-ghost use Rattle.std.specs.Prelude.{◌≡◌, ◌<◌, ◌^◌, OnOk, length};
+ghost use Rattle.std.specs.Prelude.{◌≡◌, ◌<◌, ◌^◌, IsSome, OnOk, length};
+ghost use Rattle.std.specs.Option.{ForSome};
+ghost use Rattle.block_run.specs.Run.{CanRun, HasRun};
 ghost use Rattle.apsp_model.specs.Command.{Update};
 ghost use Rattle.apsp_service.specs.Words.{IsWorkerCount};
 ghost use Rattle.history_engine.specs.Advance.{Advance};
 
+use crate::block::OpenBlock;
+use crate::blocks::Blocks;
 use apsp_io::Gate;
+use block_run::BlockAnswers;
 use graph_store::Star;
 use history_engine::Engine;
 use std::alloc::AllocError;
@@ -47,22 +52,25 @@ impl Workers {
 
 /// What updates are made with: what starts workers, how many of them, and the gate that they pass.
 #[derive(Drop)]
-pub struct Crew<'a, R, G> {
+pub struct Crew<'a, R, G, B> {
     rt: &'a R,
     workers: Workers,
     gate: &'a G,
+    blocks: &'a B,
 }
 
-impl<'a, R: Threads + Sync, G: Gate> Crew<'a, R, G> {
+impl<'a, R: Threads + Sync, G: Gate, B: Blocks> Crew<'a, R, G, B> {
     /// So many workers.
-    pub fn new(rt: &'a R, workers: u32, gate: &'a G) -> Crew<'a, R, G>
+    pub fn new(rt: &'a R, workers: u32, gate: &'a G, blocks: &'a B) -> Crew<'a, R, G, B>
         requires workers { IsWorkerCount workers }
-        ensures { result.workers ≡ workers }
+        ensures workers { result.workers ≡ workers }
+        ensures blocks { result.blocks.now ≡ blocks.now }
     {
         Crew {
             rt,
             workers: Workers::new(workers),
             gate,
+            blocks,
         }
     }
 
@@ -75,6 +83,32 @@ impl<'a, R: Threads + Sync, G: Gate> Crew<'a, R, G> {
     {
         match engine.star(self.rt, star, self.workers.count(), self.gate) {
             Ok(_) => Ok(()),
+            Err(_) => Err(AllocError),
+        }
+    }
+
+    /// How many readers a block has, and none where there are no blocks.
+    pub fn readers(&self) -> Option<u32>
+        ensures { result ≡ B.readers self.now.blocks.now }
+    {
+        self.blocks.readers()
+    }
+
+    /// Runs a block.
+    pub fn run_block(
+        &self,
+        engine: &mut Engine,
+        block: &OpenBlock,
+    ) -> Result<BlockAnswers, AllocError>
+        requires live { IsSome (B.readers self.now.blocks.now) }
+        requires ready { B.ready self.now.blocks.now }
+        requires can { CanRun engine.old block.now.plan block.now.asks }
+        ensures ran { ForSome (B.readers self.now.blocks.now) (λ r.
+            HasRun r engine.old block.now.plan block.now.asks result engine.new) }
+        ensures opening { engine.new.opening ≡ engine.old.opening }
+    {
+        match self.blocks.run_block(engine, block.plan(), block.asks()) {
+            Ok(answers) => Ok(answers),
             Err(_) => Err(AllocError),
         }
     }

@@ -1,11 +1,13 @@
-ghost use Rattle.std.specs.Prelude.{◌≡◌, ◌⊎◌, ◌↔◌, ◌+◌, ◌≤◌, List, [], ℕ, length, map, None, IfSome, IsSome, string_bytes};
-ghost use Rattle.apsp_service.specs.Words.{HasWorkers, mode_of};
+ghost use Rattle.std.specs.Prelude.{◌≡◌, ◌⊎◌, ◌↔◌, ◌+◌, ◌≤◌, List, [], ℕ, length, map, None, IfSome, IsSome, false, string_bytes};
+ghost use Rattle.block_run.specs.Run.{CanRun, HasRun};
+ghost use Rattle.apsp_service.specs.Words.{HasWorkers, IsWorkerCount, IsReaderCount, IsSlotCount, mode_of};
 ghost use Rattle.std.specs.Io.KnownBytes.{Appends};
 ghost use Rattle.apsp_io.specs.Streams.{Rose};
-ghost use Rattle.apsp_service.specs.Session.{Session};
+ghost use Rattle.apsp_service.specs.Session.{Session, has_blocks};
 ghost use Rattle.apsp_service.specs.Outcome.{status_after, ReadToEnd, IsStatus, IsAnswered, IsStoppedEarly, IsCutShort, IsComplete, IsCheck, IsLoad, IsLoadEnd, IsLoadStatus, TookMoreThan, TookAtMost, SaysTooMuch, SaysRefused};
 ghost use Rattle.apsp_service.specs.Ending.{EndsAs};
 
+use crate::blocks::{LiveBlocks, NoBlocks};
 use crate::check::check_input;
 use crate::crew::Crew;
 use crate::load::load;
@@ -13,14 +15,19 @@ use crate::run::{MOST_INPUT, run};
 use crate::stop::Stop;
 use crate::words::{Mode, read_words};
 use apsp_io::{Gate, Sink, Source};
+use apsp_model::Memory;
+use block_run::{Asks, BlockAnswers, live_block};
+use graph_store::Plan;
+use history_engine::Engine;
 use std::alloc::Global;
 use std::marker::Sync;
 use std::sync::Wait;
 use std::thread::Threads;
 
-/// Runs a mode. A script's lines are taken from the source, and the sink is given a reply to each line
-/// that has one, as soon as the line is whole; the mode that checks takes the whole input and gives one
-/// line, and the mode that generates its input takes nothing and gives one line. It waits for nobody and returns.
+/// Runs a mode without blocks. A script's lines are taken from the source, and the sink is given a reply
+/// to each line that has one, as soon as the line is whole; the mode that checks takes the whole input
+/// and gives one line, and the mode that generates its input takes nothing and gives one line. It waits
+/// for nobody and returns.
 ///
 /// The status is 0 where the input was read to its end and nothing was refused, and 1 where something
 /// was. It is 3 or 4 where the source or the sink failed, 5 where memory ran out, and 6 where the
@@ -34,6 +41,7 @@ pub fn script<S: Source, K: Sink, G: Gate, R: Threads + Sync>(
     gate: &G,
 ) -> u8
     requires workers { HasWorkers mode.now }
+    requires no_blocks { has_blocks mode.now ≡ false }
     // Of a status: the session of the whole input gives it, or what failed has counted a fault.
     ensures answered { ReadToEnd result → IsAnswered mode.now (S.left source.old) (S.left source.new) (K.held sink.old) (K.held sink.new) result }
     ensures source_failed { result ≡ 3 → Rose (S.faults source.old) (S.faults source.new) }
@@ -75,6 +83,7 @@ fn run_as<S: Source, K: Sink, G: Gate, R: Threads + Sync>(
     gate: &G,
 ) -> Result<bool, Stop>
     requires workers { HasWorkers mode.now }
+    requires no_blocks { has_blocks mode.now ≡ false }
     ensures ends { EndsAs mode.now result (S.left source.old) (S.left source.new) (K.held sink.old) (K.held sink.new)
         (S.faults source.old) (S.faults source.new) (K.faults sink.old) (K.faults sink.new) }
     ensures load { IsLoad mode.now → IsLoadEnd result }
@@ -84,16 +93,19 @@ fn run_as<S: Source, K: Sink, G: Gate, R: Threads + Sync>(
 {
     match mode {
         Mode::Run { workers, smooth } => {
-            let crew = Crew::new(rt, *workers, gate);
+            let blocks = NoBlocks;
+            let crew = Crew::new(rt, *workers, gate, &blocks);
             run(alloc, &crew, *smooth, source, sink)
         }
         Mode::Check => check_input(alloc, source, sink),
         Mode::Load { n, seed, workers } => load(rt, alloc, *n, *seed, *workers, sink, gate),
+        Mode::Live { .. } => unreachable!(),
     }
 }
 
 /// All that the program does: runs the mode that the words of the command line give. The status is 2
-/// where they give none, and nothing is read or written then; otherwise it is that of the mode.
+/// where they give none, and nothing is read or written then; otherwise it is that of the mode. In the
+/// mode with blocks it may wait: a block's readers wait for its updates.
 pub fn top<S: Source, K: Sink, G: Gate, R: Threads + Wait + Sync>(
     rt: &R,
     alloc: Global,
@@ -141,6 +153,28 @@ pub fn top<S: Source, K: Sink, G: Gate, R: Threads + Wait + Sync>(
     ensures sink_later { K.faults sink.old ≤ K.faults sink.new }
 {
     match read_words(words) {
+        Some(
+            Mode::Live {
+                workers,
+                readers,
+                slots,
+                smooth,
+            },
+        ) => {
+            let run_one = |engine: &mut Engine, plan: &Plan, asks: &Asks| -> Result<
+                BlockAnswers,
+                Memory,
+            >
+                requires workers { IsWorkerCount workers }
+                requires readers { IsReaderCount readers }
+                requires slots { IsSlotCount slots }
+                requires can { CanRun engine.old plan.now asks.now }
+                ensures { HasRun readers engine.old plan.now asks.now result engine.new }
+            { live_block(rt, alloc, engine, plan, asks, readers, slots, workers, gate) };
+            let blocks = LiveBlocks::new(readers, &run_one);
+            let crew = Crew::new(rt, workers, gate, &blocks);
+            status(run(alloc, &crew, smooth, source, sink))
+        }
         Some(mode) => script(rt, alloc, &mode, source, sink, gate),
         None => 2,
     }

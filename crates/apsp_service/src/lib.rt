@@ -2,6 +2,8 @@
 //! program does.
 #![tactic(auto)]
 
+mod block;
+mod blocks;
 mod check;
 mod crew;
 mod entry;
@@ -16,6 +18,7 @@ mod stop;
 mod tests;
 mod words;
 
+pub use block_run::{Answer, Asks, BlockAnswers, live_block};
 pub use entry::{script, top};
 pub use run::MOST_INPUT;
-pub use words::{MOST_WORKERS, Mode, read_words};
+pub use words::{LEAST_SLOTS, MOST_READERS, MOST_SLOTS, MOST_WORKERS, Mode, read_words};

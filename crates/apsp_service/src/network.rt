@@ -1,6 +1,6 @@
 //! The engine behind a session, and what a question or an update does with it.
 
-ghost use Rattle.std.specs.Prelude.{◌≡◌, ◌≢◌, ◌<◌, ◌≤◌, ◌++◌, ◌^◌, All, IfOk, List, [], OnOk, Option, false, length, string_bytes, ℕ};
+ghost use Rattle.std.specs.Prelude.{◌≡◌, ◌≢◌, ◌<◌, ◌≤◌, ◌+◌, ◌++◌, ◌^◌, All, IfOk, IsSome, List, [], OnOk, Option, false, length, string_bytes, ℕ};
 ghost use Rattle.std.specs.Option.{ForSome};
 ghost use Rattle.std.specs.List.{flat_map};
 ghost use Rattle.apsp_model.specs.declared.TheConstants.{MOST_VERTICES};
@@ -9,6 +9,7 @@ ghost use Rattle.apsp_model.specs.Least.{LeastIs};
 ghost use Rattle.graph_store.specs.Making.{IsVertexCount};
 ghost use Rattle.graph_store.specs.Edges.{IsWeight};
 ghost use Rattle.history_engine.specs.Advance.{Advance, Stands};
+ghost use Rattle.block_run.specs.Run.{CanRun, HasRun};
 ghost use Rattle.apsp_service.specs.Age.{IsAgeReply};
 ghost use Rattle.apsp_service.specs.Distance.{IsDistance, AreDistances, IsDistReply, IsRowReply};
 ghost use Rattle.apsp_service.specs.Certificate.{IsTextOf, version_of};
@@ -18,12 +19,15 @@ ghost use Rattle.apsp_service.specs.Replies.{entry_text, walk_text};
 ghost use Rattle.apsp_service.specs.Session.{star_with};
 ghost use Rattle.apsp_service.specs.Stats.{IsStatsReply};
 
+use crate::block::OpenBlock;
+use crate::blocks::Blocks;
 use crate::crew::Crew;
 use crate::replies::{put_age, put_dist, put_entry, put_stats, put_walk};
 use crate::stop::{Stop, given};
 use apsp_io::{Gate, Sink};
+use block_run::BlockAnswers;
 use certificate::write_certificate;
-use graph_store::Star;
+use graph_store::{Graph, Star};
 use history_engine::Engine;
 use std::alloc::{AllocError, Global};
 use std::fmt::Write;
@@ -77,9 +81,9 @@ impl Network {
     }
 
     /// Replaces the star of a vertex.
-    pub fn apply<R: Threads + Sync, G: Gate>(
+    pub fn apply<R: Threads + Sync, G: Gate, B: Blocks>(
         &mut self,
-        crew: &Crew<'_, R, G>,
+        crew: &Crew<'_, R, G, B>,
         star: &Star,
     ) -> Result<(), AllocError>
         requires same { star.now.vertices ≡ self.old.opening }
@@ -90,9 +94,9 @@ impl Network {
     }
 
     /// Gives u the star that it has, with the edge to v of this weight or without it.
-    pub fn put_edge<R: Threads + Sync, G: Gate>(
+    pub fn put_edge<R: Threads + Sync, G: Gate, B: Blocks>(
         &mut self,
-        crew: &Crew<'_, R, G>,
+        crew: &Crew<'_, R, G, B>,
         u: u32,
         v: u32,
         weight: Option<u32>,
@@ -107,6 +111,35 @@ impl Network {
         self.engine.graph().star_into(u, &mut self.star);
         self.star.put_out(v, weight);
         crew.update(&mut self.engine, &self.star)
+    }
+
+    /// The graph.
+    pub fn graph(&self) -> &Graph
+        ensures { result.now ≡ self.now.graph }
+    {
+        self.engine.graph()
+    }
+
+    /// The number of updates.
+    pub fn number(&self) -> u64
+        ensures { result ≡ length self.now.vertices }
+    {
+        self.engine.number()
+    }
+
+    /// Runs a block.
+    pub fn run_block<R: Threads + Sync, G: Gate, B: Blocks>(
+        &mut self,
+        crew: &Crew<'_, R, G, B>,
+        block: &OpenBlock,
+    ) -> Result<BlockAnswers, AllocError>
+        requires live { IsSome (B.readers crew.now.blocks.now) }
+        requires ready { B.ready crew.now.blocks.now }
+        requires can { CanRun self.old block.now.plan block.now.asks }
+        ensures { ForSome (B.readers crew.now.blocks.now) (λ r.
+            HasRun r self.old block.now.plan block.now.asks result self.new) }
+    {
+        crew.run_block(&mut self.engine, block)
     }
 
     /// Puts the reply to `dist` behind the text.

@@ -5,8 +5,9 @@ ghost use Rattle.std.specs.List.{flat_map};
 ghost use Rattle.path_arena.specs.Arena.{list_of, weight_of};
 ghost use Rattle.history_engine.specs.Answers.{numbers};
 ghost use Rattle.apsp_service.specs.Check.{reason_text, verdict_text, fault_text};
-ghost use Rattle.apsp_service.specs.Replies.{number_text, entry_text, dist_text, stats_text, birth_text, age_text, error_text};
+ghost use Rattle.apsp_service.specs.Replies.{number_text, entry_text, dist_text, stats_text, birth_text, age_text, error_text, answer_text, answer_walk_text};
 
+use block_run::Answer;
 use cert_check::{Reason, Verdict};
 use history_engine::{Counts, Least};
 use std::alloc::AllocError;
@@ -51,6 +52,26 @@ pub fn put_age(text: &mut String, list: &[u32], birth: Option<u64>) -> Result<()
     put_list(text, list)?;
     put_birth(text, birth)?;
     text.push('\n')
+}
+
+/// The reply to a question of a block.
+pub fn put_answer(text: &mut String, answer: &Answer) -> Result<(), AllocError>
+    ensures { OnOk result (string_bytes text.new ≡ string_bytes text.old ++ answer_text answer.now) }
+{
+    write!(text, "at {} path {} {}", answer.number, answer.x, answer.y)?;
+    put_answer_walk(text, answer.dist, answer.walk.items())?;
+    text.push('\n')
+}
+
+/// The walk of an answer behind its weight.
+fn put_answer_walk(text: &mut String, dist: u64, walk: &[u32]) -> Result<(), AllocError>
+    ensures { OnOk result (string_bytes text.new ≡ string_bytes text.old ++ answer_walk_text dist walk.now) }
+{
+    if walk.is_empty() {
+        return text.push_str(" none");
+    }
+    write!(text, " {dist} walk")?;
+    put_list(text, walk)
 }
 
 /// The reply to a refused line.

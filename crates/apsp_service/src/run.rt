@@ -1,10 +1,12 @@
 //! A run over an input: from the source, piece by piece, to the sink, reply by reply.
 
-ghost use Rattle.std.specs.Prelude.{◌≡◌, ◌<◌, ◌≤◌, ◌+◌, ◌^◌, Bool, List, [], ℕ, length, take, Option, OnOk, IfOk, false};
+ghost use Rattle.std.specs.Prelude.{◌≡◌, ◌<◌, ◌≤◌, ◌+◌, ◌^◌, List, [], ℕ, length, take, Option, OnOk, IfOk, false};
 ghost use Rattle.apsp_service.specs.Session.{State, opening};
 ghost use Rattle.apsp_service.specs.Standing.{IsAt, IsSomewhere, TakesPiece};
+ghost use Rattle.apsp_service.specs.Lawful.{IsLawful};
 ghost use Rattle.apsp_service.specs.Running.{SoFar, PieceEnds, AllEnds, RunEnds, TakeEnds};
 
+use crate::blocks::Blocks;
 use crate::crew::Crew;
 use crate::session::Session;
 use crate::stop::Stop;
@@ -20,32 +22,41 @@ pub const MOST_INPUT: usize = 16_777_216;
 pub const PIECE: usize = 4096;
 
 /// Answers the lines of the source, each as it becomes whole, and says whether one was refused.
-pub fn run<S: Source, K: Sink, R: Threads + Sync, G: Gate>(
+pub fn run<S: Source, K: Sink, R: Threads + Sync, G: Gate, B: Blocks>(
     alloc: Global,
-    crew: &Crew<'_, R, G>,
+    crew: &Crew<'_, R, G, B>,
     smooth: bool,
     source: &mut S,
     sink: &mut K,
 ) -> Result<bool, Stop>
-    ensures ends { RunEnds smooth result (S.left source.old) (S.left source.new) (K.held sink.old) (K.held sink.new) (S.faults source.old) (S.faults source.new) (K.faults sink.old) (K.faults sink.new) }
+    requires runs { B.ready crew.now.blocks.now }
+    ensures ends { RunEnds (opening (B.readers crew.now.blocks.now) smooth) result
+        (S.left source.old) (S.left source.new) (K.held sink.old) (K.held sink.new)
+        (S.faults source.old) (S.faults source.new) (K.faults sink.old) (K.faults sink.new) }
     ensures source_later { S.faults source.old ≤ S.faults source.new }
     ensures sink_later { K.faults sink.old ≤ K.faults sink.new }
 {
-    let mut session = Session::new(alloc, smooth)?;
+    let mut session = Session::new(alloc, crew.readers(), smooth)?;
     answer_all(&mut session, crew, source, sink)?;
     session.answer_last(crew, sink)?;
+    session.finish(sink)?;
     Ok(session.has_refused())
 }
 
 /// Answers the lines that a newline ends.
-fn answer_all<S: Source, K: Sink, R: Threads + Sync, G: Gate>(
+fn answer_all<S: Source, K: Sink, R: Threads + Sync, G: Gate, B: Blocks>(
     session: &mut Session,
-    crew: &Crew<'_, R, G>,
+    crew: &Crew<'_, R, G, B>,
     source: &mut S,
     sink: &mut K,
 ) -> Result<(), Stop>
-    requires { IsAt session.old (opening session.old.smooth) [] }
-    ensures ends { AllEnds session.old.smooth result session.new (S.left source.old) (S.left source.new) (K.held sink.old) (K.held sink.new) (S.faults source.old) (S.faults source.new) (K.faults sink.old) (K.faults sink.new) }
+    requires blocks { session.old.readers ≡ B.readers crew.now.blocks.now }
+    requires runs { B.ready crew.now.blocks.now }
+    requires stands { IsAt session.old (opening session.old.readers session.old.smooth) [] }
+    ensures ends { AllEnds (opening session.old.readers session.old.smooth) result session.new
+        (S.left source.old) (S.left source.new) (K.held sink.old) (K.held sink.new)
+        (S.faults source.old) (S.faults source.new) (K.faults sink.old) (K.faults sink.new) }
+    ensures readers { session.new.readers ≡ session.old.readers }
     ensures lines { OnOk result (session.new.lines ≤ MOST_INPUT) }
     ensures source_later { S.faults source.old ≤ S.faults source.new }
     ensures sink_later { K.faults sink.old ≤ K.faults sink.new }
@@ -63,9 +74,9 @@ fn answer_all<S: Source, K: Sink, R: Threads + Sync, G: Gate>(
 
 /// Answers the lines that the next piece of the input makes whole, where so many bytes were taken
 /// before. Says how many bytes it has, 0 at the end of the input.
-fn answer_piece<S: Source, K: Sink, R: Threads + Sync, G: Gate>(
+fn answer_piece<S: Source, K: Sink, R: Threads + Sync, G: Gate, B: Blocks>(
     session: &mut Session,
-    crew: &Crew<'_, R, G>,
+    crew: &Crew<'_, R, G, B>,
     taken: usize,
     buffer: &mut [u8],
     source: &mut S,
@@ -73,11 +84,17 @@ fn answer_piece<S: Source, K: Sink, R: Threads + Sync, G: Gate>(
 ) -> Result<usize, Stop>
     requires few { taken ≤ MOST_INPUT }
     requires lines { session.old.lines ≤ taken }
+    requires blocks { session.old.readers ≡ B.readers crew.now.blocks.now }
+    requires runs { B.ready crew.now.blocks.now }
     requires stands { IsSomewhere session.old }
     requires opened { session.old.cutter.whole ≡ false }
     requires room { length buffer.old ≡ PIECE }
-    ensures ends { (smooth : Bool) (left held : Option (List ℕ)) (bytes : List ℕ) → SoFar smooth session.old left (S.left source.old) held (K.held sink.old) bytes → length bytes ≡ taken → PieceEnds smooth result session.new left (S.left source.new) held (K.held sink.new) (S.faults source.old) (S.faults source.new) (K.faults sink.old) (K.faults sink.new) bytes }
+    ensures ends { (start : State) (left held : Option (List ℕ)) (bytes : List ℕ) → IsLawful start
+        → SoFar start session.old left (S.left source.old) held (K.held sink.old) bytes → length bytes ≡ taken
+        → PieceEnds start result session.new left (S.left source.new) held (K.held sink.new)
+        (S.faults source.old) (S.faults source.new) (K.faults sink.old) (K.faults sink.new) bytes }
     ensures few { IfOk result (λ count. taken + count ≤ MOST_INPUT) }
+    ensures readers { session.new.readers ≡ session.old.readers }
     ensures lines { IfOk result (λ count. session.new.lines ≤ taken + count) }
     ensures opened { OnOk result (session.new.cutter.whole ≡ false) }
     ensures source_later { S.faults source.old ≤ S.faults source.new }
@@ -95,18 +112,21 @@ fn answer_piece<S: Source, K: Sink, R: Threads + Sync, G: Gate>(
 }
 
 /// Answers the lines that the front of the buffer makes whole.
-fn answer_front<K: Sink, R: Threads + Sync, G: Gate>(
+fn answer_front<K: Sink, R: Threads + Sync, G: Gate, B: Blocks>(
     session: &mut Session,
-    crew: &Crew<'_, R, G>,
+    crew: &Crew<'_, R, G, B>,
     buffer: &[u8],
     count: usize,
     sink: &mut K,
 ) -> Result<(), Stop>
     requires inside { count ≤ length buffer.now }
+    requires blocks { session.old.readers ≡ B.readers crew.now.blocks.now }
+    requires runs { B.ready crew.now.blocks.now }
     requires stands { IsSomewhere session.old }
     requires opened { session.old.cutter.whole ≡ false }
     requires few { session.old.lines + count < 2 ^ 32 }
     ensures takes { (s : State) (content : List ℕ) → IsAt session.old s content → TakesPiece result session.new (K.held sink.old) (K.held sink.new) (K.faults sink.old) (K.faults sink.new) s content (take count buffer.now) }
+    ensures readers { session.new.readers ≡ session.old.readers }
     ensures lines { OnOk result (session.new.lines ≤ session.old.lines + count) }
     ensures opened { OnOk result (session.new.cutter.whole ≡ false) }
     ensures later { K.faults sink.old ≤ K.faults sink.new }

@@ -1,44 +1,56 @@
 //! One session: the lines of an input, answered as they become whole.
 
-ghost use Rattle.std.specs.Prelude.{◌≡◌, Some, ◌<◌, ◌≤◌, ◌+◌, ◌^◌, [], ◌∷◌, ◌++◌, List, ℕ, length, take, IfOk, OnOk, IsTrue, ◌↔◌, false, string_bytes};
+ghost use Rattle.std.specs.Prelude.{◌≡◌, Option, Some, None, ◌<◌, ◌≤◌, ◌+◌, ◌^◌, [], ◌∷◌, ◌++◌, List, ℕ, length, take, IfOk, OnOk, IsTrue, ◌↔◌, false, string_bytes};
 ghost use Rattle.script_reader.specs.Answer.{IsAnswer, Fits};
-ghost use Rattle.apsp_service.specs.Session.{State, opening, context_of, accepted, counted, HasReply, LineHasReply, after_line, after_lines};
+ghost use Rattle.apsp_service.specs.Session.{State, opening, context_at, context_of, accepted, counted, HasReply, HasBlockReply, LineHasReply, after_line, after_lines, ending_of, has_refused};
 ghost use Rattle.script_reader.specs.Meaning.{line_of};
 ghost use Rattle.script_reader.specs.Input.{line_if_some};
-ghost use Rattle.apsp_service.specs.Giving.{HasNetwork, IsNetworkOf, IsReady, GrowsBy, TextGiven, IsRepliedBy, CertificateGiven, vertices_in, GivingEnds};
+ghost use Rattle.apsp_service.specs.Giving.{HasInside, IsNetworkOf, IsReady, GrowsBy, TextGiven, LinesGiven, IsRepliedBy, CertificateGiven, vertices_in, GivingEnds};
+ghost use Rattle.graph_store.specs.Plan.{hi_of};
+ghost use Rattle.history_engine.specs.Seen.{Seen};
+ghost use Rattle.std.specs.List.{flat_map};
+ghost use Rattle.apsp_service.specs.Blocks.{last_graph};
+ghost use Rattle.apsp_service.specs.Replies.{answer_text};
 ghost use Rattle.apsp_service.specs.Standing.{HasState, IsAt, IsSomewhere, TakesFront, TakesPiece};
 ghost use Rattle.script_reader.specs.Cutter.{StandsFor};
 ghost use Rattle.apsp_model.specs.declared.TheConstants.{MOST_VERTICES};
 ghost use Rattle.apsp_service.specs.Begun.{lines_from, rest_from};
 
+use crate::block::OpenBlock;
+use crate::blocks::Blocks;
 use crate::crew::Crew;
 use crate::network::Network;
-use crate::replies::put_error;
+use crate::replies::{put_answer, put_error};
 use crate::stop::Stop;
 use apsp_io::{Gate, GiveError, Sink};
 use apsp_model::Memory;
-use script_reader::code::TOO_LONG;
+use block_run::{Answer, BlockAnswers};
+use script_reader::code::{OPEN_BLOCK, TOO_LONG};
 use script_reader::{Context, Line, LineCutter, LineError, read_line};
 use std::alloc::{AllocError, Global};
 use std::marker::Sync;
 use std::thread::Threads;
 
 /// Where the reply to a line is: it is the session's text, or the certificate of its network, which is
-/// given line by line.
-#[derive(Clone, Copy, Debug, PartialEq, Eq)]
+/// given line by line, or the answers of a block.
+#[derive(Drop)]
 enum Reply {
     Text,
     Certificate,
+    Answers(BlockAnswers),
 }
 
 /// What a session keeps from line to line: the line that is begun, the network and whether smoothing
-/// is on, how many lines there were and whether one was refused, and room for the text of a reply.
+/// is on, how many readers a block has and the block that is open, how many lines there were and whether
+/// one was refused, and room for the text of a reply.
 #[derive(Drop)]
 pub struct Session {
     alloc: Global,
     cutter: LineCutter,
     network: Option<Network>,
     smooth: bool,
+    readers: Option<u32>,
+    block: Option<OpenBlock>,
     lines: u32,
     refused: bool,
     text: String,
@@ -46,8 +58,9 @@ pub struct Session {
 
 impl Session {
     /// Before the first line.
-    pub fn new(alloc: Global, smooth: bool) -> Result<Session, Memory>
-        ensures stands { IfOk result (λ s. HasState s (opening s.smooth)) }
+    pub fn new(alloc: Global, readers: Option<u32>, smooth: bool) -> Result<Session, Memory>
+        ensures stands { IfOk result (λ s. HasState s (opening s.readers s.smooth)) }
+        ensures readers { IfOk result (λ s. s.readers ≡ readers) }
         ensures smooth { IfOk result (λ s. s.smooth ≡ smooth) }
         ensures content { IfOk result (λ s. StandsFor s.cutter []) }
         ensures open { IfOk result (λ s. s.cutter.whole ≡ false) }
@@ -57,6 +70,8 @@ impl Session {
             cutter: LineCutter::new(alloc)?,
             network: None,
             smooth,
+            readers,
+            block: None,
             lines: 0,
             refused: false,
             text: String::new(alloc),
@@ -65,28 +80,35 @@ impl Session {
 
     /// What the meaning of the next line depends on.
     fn context(&self) -> Context
+        requires few { self.now.lines < 2 ^ 32 }
+        requires stands { (s : State) × HasState self.now s }
         ensures context { (s : State) → HasState self.now s → result ≡ context_of s }
-        ensures vertices { result.vertices ≡ vertices_in self.now.network }
+        ensures is { result ≡ context_at (vertices_in self.now.network) self.now.readers self.now.block }
         ensures most { result.vertices ≤ MOST_VERTICES }
-        ensures no_blocks { (result.live ≡ false) × (result.inside ≡ false) }
     {
         let vertices = match &self.network {
             Some(network) => network.vertices(),
             None => 0,
         };
+        let (updates, asks) = match &self.block {
+            Some(block) => (block.count_updates(), block.count_asks()),
+            None => (0, 0),
+        };
         Context {
             vertices,
-            live: false,
-            inside: false,
-            updates: 0,
-            asks: 0,
+            live: self.readers.is_some(),
+            inside: self.block.is_some(),
+            updates,
+            asks,
         }
     }
 
     /// What the line that is begun asks for, or why and where it is refused.
     fn read(&self) -> Result<Line, LineError>
+        requires few { self.now.lines < 2 ^ 32 }
+        requires stands { (s : State) × HasState self.now s }
         ensures reading { (s : State) (content : List ℕ) → HasState self.now s → StandsFor self.now.cutter content → IsAnswer (line_of (context_of s) content) result }
-        ensures fits { IfOk result (Fits (vertices_in self.now.network)) }
+        ensures fits { IfOk result (Fits (context_at (vertices_in self.now.network) self.now.readers self.now.block)) }
     {
         if self.cutter.too_long() {
             return Err(LineError::Refused {
@@ -97,38 +119,87 @@ impl Session {
         read_line(self.alloc, self.cutter.line(), &self.context())
     }
 
-    /// Does what an accepted line other than `cert` asks for, and puts the reply behind the text.
-    fn obey<R: Threads + Sync, G: Gate>(
+    /// Does what an accepted line other than `cert` and `end` asks for, and puts the reply behind the text.
+    fn obey<R: Threads + Sync, G: Gate, B: Blocks>(
         &mut self,
-        crew: &Crew<'_, R, G>,
+        crew: &Crew<'_, R, G, B>,
         line: Line,
     ) -> Result<(), AllocError>
-        requires fits { Fits (vertices_in self.old.network) line }
+        requires fits { Fits (context_at (vertices_in self.old.network) self.old.readers self.old.block) line }
         requires text_alone { line ≡ Line.Cert → ⊥ }
+        requires goes_on { line ≡ Line.End → ⊥ }
         requires ready { IsReady self.old.network }
-        ensures stands { (s : State) → HasNetwork self.old.network s → self.old.smooth ≡ s.smooth → OnOk result (HasNetwork self.new.network (accepted (counted s) line)) }
-        ensures reply { (s : State) → HasNetwork self.old.network s → OnOk result (GrowsBy (HasReply s.vertices s.smooth s.commands line) (string_bytes self.old.text) (string_bytes self.new.text)) }
+        requires stands { (s : State) × HasInside self.old.network self.old.block s × (s.lines < 2 ^ 40) }
+        ensures stands { (s : State) → HasInside self.old.network self.old.block s
+            → self.old.smooth ≡ s.smooth → self.old.readers ≡ s.readers
+            → OnOk result (HasInside self.new.network self.new.block (accepted (counted s) line)) }
+        ensures reply { (s : State) → HasInside self.old.network self.old.block s
+            → OnOk result (GrowsBy (HasReply s.vertices s.smooth s.commands line)
+            (string_bytes self.old.text) (string_bytes self.new.text)) }
         ensures cutter { self.new.cutter ≡ self.old.cutter }
         ensures smooth { self.new.smooth ≡ self.old.smooth }
+        ensures readers { self.new.readers ≡ self.old.readers }
         ensures lines { self.new.lines ≡ self.old.lines }
         ensures refused { self.new.refused ≡ self.old.refused }
     {
         if let Line::Vertices(vertices) = line {
             self.network = Some(Network::new(self.alloc, vertices, self.smooth)?);
+            self.block = None;
             return Ok(());
         }
-        match &mut self.network {
-            Some(network) => obey_in(network, crew, &mut self.text, line),
-            None => Ok(()),
+        let Some(network) = &mut self.network else {
+            return Ok(());
+        };
+        if let Line::Block = line {
+            if self.readers.is_some() {
+                self.block = Some(OpenBlock::new(self.alloc, network.graph(), network.number())?);
+            }
+            return Ok(());
+        }
+        match &mut self.block {
+            Some(block) => obey_in_block(block, line),
+            None => obey_in(network, crew, &mut self.text, line),
         }
     }
 
-    /// Answers the line that is begun, and says where its reply is.
-    fn answer<R: Threads + Sync, G: Gate>(
+    /// Runs the block that is open, if one is, and gives its answers.
+    fn end_block<R: Threads + Sync, G: Gate, B: Blocks>(
         &mut self,
-        crew: &Crew<'_, R, G>,
+        crew: &Crew<'_, R, G, B>,
+    ) -> Result<BlockAnswers, AllocError>
+        requires blocks { self.old.readers ≡ B.readers crew.now.blocks.now }
+        requires runs { B.ready crew.now.blocks.now }
+        requires ready { IsReady self.old.network }
+        requires stands { (s : State) × HasInside self.old.network self.old.block s
+            × (s.readers ≡ self.old.readers) × (s.lines < 2 ^ 40) }
+        ensures stands { (s : State) → HasInside self.old.network self.old.block s
+            → IfOk result (λ _. HasInside self.new.network self.new.block (accepted (counted s) Line.End)) }
+        ensures reply { (s : State) → HasInside self.old.network self.old.block s
+            → IfOk result (λ answers. HasBlockReply self.old.readers s.block (flat_map answer_text answers)) }
+        ensures cutter { self.new.cutter ≡ self.old.cutter }
+        ensures smooth { self.new.smooth ≡ self.old.smooth }
+        ensures readers { self.new.readers ≡ self.old.readers }
+        ensures lines { self.new.lines ≡ self.old.lines }
+        ensures refused { self.new.refused ≡ self.old.refused }
+        ensures text { self.new.text ≡ self.old.text }
+    {
+        let Some(block) = self.block.take() else {
+            return Ok(BlockAnswers::none(self.alloc));
+        };
+        let Some(network) = &mut self.network else {
+            return Ok(BlockAnswers::none(self.alloc));
+        };
+        network.run_block(crew, &block)
+    }
+
+    /// Answers the line that is begun, and says where its reply is.
+    fn answer<R: Threads + Sync, G: Gate, B: Blocks>(
+        &mut self,
+        crew: &Crew<'_, R, G, B>,
     ) -> Result<Reply, AllocError>
         requires few { self.old.lines + 1 < 2 ^ 32 }
+        requires blocks { self.old.readers ≡ B.readers crew.now.blocks.now }
+        requires runs { B.ready crew.now.blocks.now }
         requires stands { (s : State) × HasState self.old s }
         ensures stands { (s : State) (content : List ℕ) → HasState self.old s → StandsFor self.old.cutter content
             → IfOk result (λ _. HasState self.new (after_line s content)) }
@@ -137,6 +208,7 @@ impl Session {
         ensures certificate { IfOk result (λ reply. reply ≡ Reply.Certificate
             → IsReady self.new.network × (0 < vertices_in self.new.network)) }
         ensures cutter { self.new.cutter ≡ self.old.cutter }
+        ensures readers { self.new.readers ≡ self.old.readers }
         ensures lines { self.new.lines ≡ self.old.lines + 1 }
     {
         let reading = self.read();
@@ -144,6 +216,10 @@ impl Session {
         self.lines += 1;
         match reading {
             Ok(Line::Cert) => Ok(Reply::Certificate),
+            Ok(Line::End) => {
+                let answers = self.end_block(crew)?;
+                Ok(Reply::Answers(answers))
+            }
             Ok(line) => {
                 self.obey(crew, line)?;
                 Ok(Reply::Text)
@@ -157,22 +233,26 @@ impl Session {
         }
     }
 
-    /// Answers the line that is begun, and gives the sink its reply.
-    fn answer_line<K: Sink, R: Threads + Sync, G: Gate>(
+    /// Answers the line that is begun, and gives the sink its reply, each line of it by itself.
+    fn answer_line<K: Sink, R: Threads + Sync, G: Gate, B: Blocks>(
         &mut self,
-        crew: &Crew<'_, R, G>,
+        crew: &Crew<'_, R, G, B>,
         sink: &mut K,
     ) -> Result<(), Stop>
         requires few { self.old.lines + 1 < 2 ^ 32 }
+        requires blocks { self.old.readers ≡ B.readers crew.now.blocks.now }
+        requires runs { B.ready crew.now.blocks.now }
         requires stands { (s : State) × HasState self.old s }
         ensures stands { (s : State) (content : List ℕ) → HasState self.old s → StandsFor self.old.cutter content → OnOk result (HasState self.new (after_line s content)) }
         ensures gives { (s : State) (content : List ℕ) → HasState self.old s → StandsFor self.old.cutter content → GivingEnds result (K.held sink.old) (K.held sink.new) (K.faults sink.old) (K.faults sink.new) s (content ∷ []) }
+        ensures readers { self.new.readers ≡ self.old.readers }
         ensures lines { self.new.lines ≡ self.old.lines + 1 }
         ensures later { K.faults sink.old ≤ K.faults sink.new }
     {
         match self.answer(crew)? {
             Reply::Text => give(sink, self.text.as_str()),
             Reply::Certificate => self.give_certificate(sink),
+            Reply::Answers(given) => give_answers(sink, &mut self.text, given.answers()),
         }
     }
 
@@ -183,6 +263,7 @@ impl Session {
         ensures stands { (s : State) → HasState self.old s → HasState self.new s }
         ensures gives { (s : State) → HasState self.old s
             → CertificateGiven result (K.held sink.old) (K.held sink.new) (K.faults sink.old) (K.faults sink.new) s }
+        ensures readers { self.new.readers ≡ self.old.readers }
         ensures lines { self.new.lines ≡ self.old.lines }
         ensures later { K.faults sink.old ≤ K.faults sink.new }
     {
@@ -194,12 +275,14 @@ impl Session {
 
     /// Takes the piece up to and with its first newline, or all of it, and answers the line that is
     /// whole then. Says how many bytes it took.
-    fn answer_front<K: Sink, R: Threads + Sync, G: Gate>(
+    fn answer_front<K: Sink, R: Threads + Sync, G: Gate, B: Blocks>(
         &mut self,
-        crew: &Crew<'_, R, G>,
+        crew: &Crew<'_, R, G, B>,
         piece: &[u8],
         sink: &mut K,
     ) -> Result<usize, Stop>
+        requires blocks { self.old.readers ≡ B.readers crew.now.blocks.now }
+        requires runs { B.ready crew.now.blocks.now }
         requires stands { IsSomewhere self.old }
         requires some { 0 < length piece.now }
         requires opened { self.old.cutter.whole ≡ false }
@@ -209,6 +292,7 @@ impl Session {
         ensures takes { (s : State) (content : List ℕ) → IsAt self.old s content → TakesFront result self.new (K.held sink.old) (K.held sink.new) (K.faults sink.old) (K.faults sink.new) s content piece.now }
         ensures lines { IfOk result (λ used. self.new.lines ≤ self.old.lines + used) }
         ensures opened { OnOk result (self.new.cutter.whole ≡ false) }
+        ensures readers { self.new.readers ≡ self.old.readers }
         ensures later { K.faults sink.old ≤ K.faults sink.new }
     {
         let cut = self.cutter.feed(piece);
@@ -220,18 +304,21 @@ impl Session {
     }
 
     /// Takes a piece of the input, and answers each line that is whole then.
-    pub fn answer_piece<K: Sink, R: Threads + Sync, G: Gate>(
+    pub fn answer_piece<K: Sink, R: Threads + Sync, G: Gate, B: Blocks>(
         &mut self,
-        crew: &Crew<'_, R, G>,
+        crew: &Crew<'_, R, G, B>,
         piece: &[u8],
         sink: &mut K,
     ) -> Result<(), Stop>
+        requires blocks { self.old.readers ≡ B.readers crew.now.blocks.now }
+        requires runs { B.ready crew.now.blocks.now }
         requires stands { IsSomewhere self.old }
         requires opened { self.old.cutter.whole ≡ false }
         requires few { self.old.lines + length piece.now < 2 ^ 32 }
         ensures takes { (s : State) (content : List ℕ) → IsAt self.old s content → TakesPiece result self.new (K.held sink.old) (K.held sink.new) (K.faults sink.old) (K.faults sink.new) s content piece.now }
         ensures lines { OnOk result (self.new.lines ≤ self.old.lines + length piece.now) }
         ensures opened { OnOk result (self.new.cutter.whole ≡ false) }
+        ensures readers { self.new.readers ≡ self.old.readers }
         ensures later { K.faults sink.old ≤ K.faults sink.new }
     {
         let mut rest = piece;
@@ -243,15 +330,19 @@ impl Session {
     }
 
     /// Answers what stands behind the last newline of the input, where that is not empty.
-    pub fn answer_last<K: Sink, R: Threads + Sync, G: Gate>(
+    pub fn answer_last<K: Sink, R: Threads + Sync, G: Gate, B: Blocks>(
         &mut self,
-        crew: &Crew<'_, R, G>,
+        crew: &Crew<'_, R, G, B>,
         sink: &mut K,
     ) -> Result<(), Stop>
         requires few { self.old.lines + 1 < 2 ^ 32 }
+        requires blocks { self.old.readers ≡ B.readers crew.now.blocks.now }
+        requires runs { B.ready crew.now.blocks.now }
         requires stands { IsSomewhere self.old }
         ensures gives { (s : State) (content : List ℕ) → IsAt self.old s content → GivingEnds result (K.held sink.old) (K.held sink.new) (K.faults sink.old) (K.faults sink.new) s (line_if_some content) }
         ensures stands { (s : State) (content : List ℕ) → IsAt self.old s content → OnOk result (HasState self.new (after_lines s (line_if_some content))) }
+        ensures lines { OnOk result (self.new.lines ≤ self.old.lines + 1) }
+        ensures readers { self.new.readers ≡ self.old.readers }
         ensures later { K.faults sink.old ≤ K.faults sink.new }
     {
         if self.is_line_empty() {
@@ -268,12 +359,42 @@ impl Session {
         self.cutter.is_empty()
     }
 
-    /// Whether some line was refused.
-    pub fn has_refused(&self) -> bool
-        ensures { result ≡ self.now.refused }
+    /// Gives the reply to the end of the input, where a block is open there.
+    pub fn finish<K: Sink>(&mut self, sink: &mut K) -> Result<(), Stop>
+        requires few { self.old.lines + 1 < 2 ^ 32 }
+        ensures gives { (s : State) → HasState self.old s
+            → LinesGiven result (K.held sink.old) (K.held sink.new) (K.faults sink.old) (K.faults sink.new) (ending_of s) }
+        ensures kept { (s : State) → HasState self.old s → HasState self.new s }
+        ensures later { K.faults sink.old ≤ K.faults sink.new }
     {
-        self.refused
+        if self.block.is_none() {
+            return Ok(());
+        }
+        self.text.clear();
+        put_error(&mut self.text, self.lines + 1, OPEN_BLOCK, 0)?;
+        give(sink, self.text.as_str())
     }
+
+    /// Whether some line was refused, or a block is open.
+    pub fn has_refused(&self) -> bool
+        ensures { (s : State) → HasState self.now s → result ≡ has_refused s }
+    {
+        self.refused || self.block.is_some()
+    }
+}
+
+/// Gives answers, each by itself.
+fn give_answers<K: Sink>(sink: &mut K, text: &mut String, answers: &[Answer]) -> Result<(), Stop>
+    ensures given { LinesGiven result (K.held sink.old) (K.held sink.new) (K.faults sink.old) (K.faults sink.new)
+        (flat_map answer_text answers.now) }
+    ensures later { K.faults sink.old ≤ K.faults sink.new }
+{
+    for answer in answers {
+        text.clear();
+        put_answer(text, answer)?;
+        give(sink, text.as_str())?;
+    }
+    Ok(())
 }
 
 /// Gives a reply, where there is one.
@@ -291,19 +412,25 @@ pub fn give<K: Sink>(sink: &mut K, text: &str) -> Result<(), Stop>
     }
 }
 
-/// Does what a line asks for that neither begins a graph nor is `cert`, and puts the reply behind the text.
-fn obey_in<R: Threads + Sync, G: Gate>(
+/// Does what a line asks for outside a block that is neither `cert` nor begins a graph or a block, and puts
+/// the reply behind the text.
+fn obey_in<R: Threads + Sync, G: Gate, B: Blocks>(
     network: &mut Network,
-    crew: &Crew<'_, R, G>,
+    crew: &Crew<'_, R, G, B>,
     text: &mut String,
     line: Line,
 ) -> Result<(), AllocError>
-    requires fits { Fits network.old.opening line }
+    requires fits { (readers : Option ℕ) × Fits (context_at network.old.opening readers None) line }
     requires goes_on { (n : ℕ) → line ≡ Line.Vertices n → ⊥ }
     requires text_alone { line ≡ Line.Cert → ⊥ }
+    requires no_begin { line ≡ Line.Block → ⊥ }
+    requires no_end { line ≡ Line.End → ⊥ }
     requires ready { IsReady (Some network.old) }
-    ensures stands { (s : State) → IsNetworkOf network.old s → OnOk result (IsNetworkOf network.new (accepted (counted s) line)) }
-    ensures reply { (s : State) → IsNetworkOf network.old s → OnOk result (GrowsBy (HasReply s.vertices s.smooth s.commands line) (string_bytes text.old) (string_bytes text.new)) }
+    ensures stands { (s : State) → HasInside (Some network.old) None s
+        → OnOk result (HasInside (Some network.new) None (accepted (counted s) line)) }
+    ensures reply { (s : State) → HasInside (Some network.old) None s
+        → OnOk result (GrowsBy (HasReply s.vertices s.smooth s.commands line)
+        (string_bytes text.old) (string_bytes text.new)) }
 {
     match line {
         Line::Star(star) => network.apply(crew, &star),
@@ -314,6 +441,38 @@ fn obey_in<R: Threads + Sync, G: Gate>(
         Line::Row { x } => network.put_row(text, x),
         Line::Stats => network.put_stats(text),
         Line::Age(list) => network.put_age(text, list.items()),
-        Line::Nothing | Line::Vertices(_) | Line::Cert => Ok(()),
+        Line::Nothing
+        | Line::Vertices(_)
+        | Line::Cert
+        | Line::Block
+        | Line::Ask { .. }
+        | Line::End => Ok(()),
+    }
+}
+
+/// Does what a line asks for in a block other than its end. There it has no reply.
+fn obey_in_block(block: &mut OpenBlock, line: Line) -> Result<(), AllocError>
+    requires fits { (readers : Option ℕ)
+        × Fits (context_at (last_graph block.old.plan).vertices readers (Some block.old)) line }
+    requires few { hi_of block.old.plan < 2 ^ 40 }
+    requires goes_on { line ≡ Line.End → ⊥ }
+    ensures { (e : Seen) (s : State) → HasInside (Some e) (Some block.old) s
+        → OnOk result (HasInside (Some e) (Some block.new) (accepted (counted s) line)) }
+{
+    match line {
+        Line::Star(star) => block.apply(star),
+        Line::Edge { u, v, w } => block.put_edge(u, v, Some(w)),
+        Line::Cut { u, v } => block.put_edge(u, v, None),
+        Line::Ask { x, y, since } => block.ask(x, y, since),
+        Line::Nothing
+        | Line::Vertices(_)
+        | Line::Dist { .. }
+        | Line::Path { .. }
+        | Line::Row { .. }
+        | Line::Stats
+        | Line::Age(_)
+        | Line::Cert
+        | Line::Block
+        | Line::End => Ok(()),
     }
 }

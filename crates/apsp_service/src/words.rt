@@ -1,7 +1,7 @@
 //! The words of the command line.
 
 ghost use Rattle.std.specs.Prelude.{◌≡◌, ◌≤◌, IfSome, map, string_bytes};
-ghost use Rattle.apsp_service.specs.Words.{HasWorkers, MayWork, mode_of, run_of, check_of, load_of, drawn_of, no_options, options_from, with_smooth, with_number, number_in, word_number};
+ghost use Rattle.apsp_service.specs.Words.{HasWorkers, MayWork, mode_of, run_of, live_of, check_of, load_of, drawn_of, no_options, options_from, with_smooth, with_number, number_in, word_number};
 
 use script_reader::number_of;
 
@@ -14,11 +14,17 @@ pub const WORKERS: u32 = 4;
 /// The most readers of a block.
 pub const MOST_READERS: u32 = 32;
 
+/// The readers of a block where the words do not say how many.
+pub const READERS: u32 = 2;
+
 /// The least slots that versions stand in.
 pub const LEAST_SLOTS: u32 = 2;
 
 /// The most slots that versions stand in.
 pub const MOST_SLOTS: u32 = 64;
+
+/// The slots where the words do not say how many.
+pub const SLOTS: u32 = 4;
 
 /// The least vertices of generated input.
 pub const LEAST_DRAWN: u32 = 2;
@@ -33,11 +39,25 @@ const MOST_DIGITS: usize = 10;
 #[derive(Clone, Copy, Debug, PartialEq, Eq)]
 pub enum Mode {
     /// Runs a script, with 1 to `MOST_WORKERS` workers and with or without smoothing.
-    Run { workers: u32, smooth: bool },
+    Run {
+        workers: u32,
+        smooth: bool,
+    },
+    /// The same with blocks, whose questions so many readers answer from so many slots.
+    Live {
+        workers: u32,
+        readers: u32,
+        slots: u32,
+        smooth: bool,
+    },
     /// Reads a certificate, and says what holds of it.
     Check,
     /// Runs the input that a seed draws on `LEAST_DRAWN` to `MOST_DRAWN` vertices.
-    Load { n: u32, seed: u64, workers: u32 },
+    Load {
+        n: u32,
+        seed: u64,
+        workers: u32,
+    },
 }
 
 /// What the options say. A number is none where its option is not given.
@@ -50,8 +70,10 @@ pub struct Options {
 }
 
 /// The mode that the words of the command line give, and none where they are not in the grammar:
-/// no words, or the word `run`, with the options `--workers W` and `--smooth`, the word `check` alone,
-/// or the word `load`, the numbers N and SEED, and the option `--workers W`. Options stand in any order, each at most once. Takes no memory.
+/// no words, or the word `run`, with the options `--workers W` and `--smooth`, or the word `live`,
+/// with these and `--readers R` and `--slots K`, or the word `check` alone, or the word `load`, the
+/// numbers N and SEED, and the option `--workers W`. Options stand in any order, each at most once.
+/// Takes no memory.
 pub fn read_words(words: &[String]) -> Option<Mode>
     ensures mode { result ≡ mode_of (map string_bytes words.now) }
     ensures workers { IfSome result HasWorkers }
@@ -59,6 +81,7 @@ pub fn read_words(words: &[String]) -> Option<Mode>
     match words {
         [] => run_mode(words),
         [mode, rest @ ..] if mode.as_str() == "run" => run_mode(rest),
+        [mode, rest @ ..] if mode.as_str() == "live" => live_mode(rest),
         [mode, rest @ ..] if mode.as_str() == "check" => check_mode(rest),
         [mode, rest @ ..] if mode.as_str() == "load" => load_mode(rest),
         _ => None,
@@ -76,6 +99,20 @@ fn run_mode(words: &[String]) -> Option<Mode>
     }
     Some(Mode::Run {
         workers: options.workers.unwrap_or(WORKERS),
+        smooth: options.smooth,
+    })
+}
+
+/// The mode `live` with its options.
+fn live_mode(words: &[String]) -> Option<Mode>
+    ensures mode { result ≡ live_of (map string_bytes words.now) }
+    ensures workers { IfSome result HasWorkers }
+{
+    let options = read_options(Options::new(), words)?;
+    Some(Mode::Live {
+        workers: options.workers.unwrap_or(WORKERS),
+        readers: options.readers.unwrap_or(READERS),
+        slots: options.slots.unwrap_or(SLOTS),
         smooth: options.smooth,
     })
 }

@@ -1,5 +1,5 @@
 -- What the reader answers, and what an accepted line promises.
-use Rattle.std.specs.Prelude.{◌≡◌, ◌≢◌, ℕ, ◌+◌, ◌<◌, ⊤, List, [], ◌∷◌, length, min, All, Result, Ok, Err}
+use Rattle.std.specs.Prelude.{◌≡◌, ◌≢◌, ℕ, ◌+◌, ◌<◌, ◌≤◌, true, false, ⊤, List, [], ◌∷◌, length, min, All, Option, Some, None, Result, Ok, Err}
 use Rattle.std.specs.declared.alloc.Global.{Global}
 use Rattle.std.specs.declared.vec.Vec.{Vec}
 use Rattle.apsp_model.specs.Star.{Star as Star_model, IsStar}
@@ -8,10 +8,11 @@ use Rattle.graph_store.specs.Edges.{IsWeight}
 use Rattle.graph_store.specs.declared.StarError.{StarError}
 use Rattle.graph_store.specs.declared.StarError.TheVariants.{Vertex, SelfEdge, Repeat, Weight, Memory as Star_memory}
 use Rattle.script_reader.specs.declared.code.TheConstants.{SHAPE, VERTEX, SELF_EDGE, REPEAT, WEIGHT}
+use Rattle.script_reader.specs.declared.Context.{Context}
 use Rattle.script_reader.specs.declared.LineError.{LineError}
 use Rattle.script_reader.specs.declared.LineError.TheVariants.{Refused, Memory}
 use Rattle.script_reader.specs.declared.Line.{Line}
-use Rattle.script_reader.specs.declared.Line.TheVariants.{Vertices, Star, Edge, Cut, Dist, Path, Row, Stats, Age, Cert}
+use Rattle.script_reader.specs.declared.Line.TheVariants.{Vertices, Star, Edge, Cut, Dist, Path, Row, Stats, Age, Cert, Block, Ask, End}
 use Rattle.script_reader.specs.declared.scan.Word.{Word}
 use Rattle.script_reader.specs.declared.scan.Words.{Words}
 use Rattle.script_reader.specs.Scan.{words_left}
@@ -72,16 +73,32 @@ IsAtEnd words (Ok _) = words_left words ≡ []
 IsAtEnd words (Err (Refused code place)) = (0 < length (words_left words)) × (code ≡ SHAPE) × (place ≡ words.place)
 IsAtEnd words (Err Memory) = ⊥
 
--- the numbers of an accepted line are in range, where n is the number of vertices
-abbrev pub Fits : ℕ → Line → Type 0
-Fits n (Vertices m) = IsVertexCount m
-Fits n (Star s) = (s.vertices ≡ n) × IsStar s
-Fits n (Edge u v w) = (u < n) × (v < n) × (u ≢ v) × IsWeight w
-Fits n (Cut u v) = (u < n) × (v < n) × (u ≢ v)
-Fits n (Dist x y) = (x < n) × (y < n)
-Fits n (Path x y) = (x < n) × (y < n)
-Fits n (Row x) = x < n
-Fits n Stats = 0 < n
-Fits n (Age list) = (0 < length list) × All (λ x. x < n) list
-Fits n Cert = 0 < n
-Fits n _ = ⊤
+-- the bytes of a word that may stand
+abbrev pub bytes_of : Option Word → Option (List ℕ)
+bytes_of None = None
+bytes_of (Some word) = Some word.bytes.now
+
+-- the word of the number behind `since`, which is the fifth of its line
+abbrev pub IsSinceAnswer : Result (Option (List ℕ)) Refusal → Result (Option Word) LineError → Type 0
+IsSinceAnswer meaning (Ok None) = meaning ≡ Ok None
+IsSinceAnswer meaning (Ok (Some word)) = (meaning ≡ Ok (Some word.bytes.now)) × (word.place ≡ 5)
+IsSinceAnswer meaning (Err (Refused code place)) = meaning ≡ refused code place
+IsSinceAnswer meaning (Err Memory) = ⊤
+
+-- an accepted line may stand where it does, and its numbers are in range
+abbrev pub Fits : Context → Line → Type 0
+Fits context (Vertices m) = (context.inside ≡ false) × IsVertexCount m
+Fits context (Star s) = (s.vertices ≡ context.vertices) × IsStar s
+Fits context (Edge u v w) = (u < context.vertices) × (v < context.vertices) × (u ≢ v) × IsWeight w
+Fits context (Cut u v) = (u < context.vertices) × (v < context.vertices) × (u ≢ v)
+Fits context (Dist x y) = (context.inside ≡ false) × (x < context.vertices) × (y < context.vertices)
+Fits context (Path x y) = (context.inside ≡ false) × (x < context.vertices) × (y < context.vertices)
+Fits context (Row x) = (context.inside ≡ false) × (x < context.vertices)
+Fits context Stats = (context.inside ≡ false) × (0 < context.vertices)
+Fits context (Age list) = (context.inside ≡ false) × (0 < length list) × All (λ x. x < context.vertices) list
+Fits context Cert = (context.inside ≡ false) × (0 < context.vertices)
+Fits context Block = (context.live ≡ true) × (context.inside ≡ false) × (0 < context.vertices)
+Fits context (Ask x y since) =
+    (context.inside ≡ true) × (x < context.vertices) × (y < context.vertices) × (since ≤ context.updates)
+Fits context End = context.inside ≡ true
+Fits context _ = ⊤

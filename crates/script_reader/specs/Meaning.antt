@@ -1,30 +1,56 @@
 -- The meaning of a line: by cases on its words, the tests in their one order.
-use Rattle.std.specs.Prelude.{ℕ, ◌+◌, Bool, true, false, ◌==◌, ◌&&◌, nat_lt, nat_le, min, if◌then◌else◌, List, [], ◌∷◌, length, Option, Some, None, Result, Ok}
+use Rattle.std.specs.Prelude.{ℕ, ◌+◌, Bool, true, false, not, ◌==◌, ◌&&◌, ◌||◌, nat_lt, nat_le, min, if◌then◌else◌, List, [], ◌∷◌, length, Option, Some, None, Result, Ok}
 use Rattle.apsp_model.specs.declared.TheConstants.{MOST_VERTICES}
 use Rattle.graph_store.specs.Making.{no_star}
-use Rattle.script_reader.specs.declared.TheConstants.{MOST_LINE_BYTES}
-use Rattle.script_reader.specs.declared.code.TheConstants.{NO_VERTICES, VERTICES_TWICE, COMMAND, SHAPE, VERTEX, SELF_EDGE, TOO_LONG, NEEDS_LIVE}
+use Rattle.script_reader.specs.declared.TheConstants.{MOST_LINE_BYTES, MOST_IN_BLOCK}
+use Rattle.script_reader.specs.declared.code.TheConstants.{NO_VERTICES, VERTICES_TWICE, COMMAND, SHAPE, VERTEX, SELF_EDGE, TOO_LONG, NEEDS_LIVE, BLOCK_FULL, OPEN_BLOCK, SINCE}
 use Rattle.script_reader.specs.declared.Context.{Context}
 use Rattle.script_reader.specs.declared.Command.{Command}
 use Rattle.script_reader.specs.declared.Command.TheVariants as command
 use Rattle.script_reader.specs.declared.Line.{Line}
-use Rattle.script_reader.specs.declared.Line.TheVariants.{Nothing, Vertices, Star, Edge, Cut, Dist, Path, Row, Stats, Age, Cert}
+use Rattle.script_reader.specs.declared.Line.TheVariants.{Nothing, Vertices, Star, Edge, Cut, Dist, Path, Row, Stats, Age, Cert, Block, Ask, End}
 use Rattle.script_reader.specs.declared.Group.TheVariants.{Out}
-use Rattle.script_reader.specs.Words.{words_of, is_comment, command_of}
+use Rattle.script_reader.specs.Words.{words_of, is_comment, is_since, command_of}
 use Rattle.script_reader.specs.Refused.{Refusal, refused, ◌>>=◌}
 use Rattle.script_reader.specs.Edges.{number_at, vertex_at, weight_at_word, vertices_at, first_misfit, star_with_groups}
 
--- commands that stand in blocks, or begin or end one
+abbrev pub is_vertices : Command → Bool
+is_vertices command.Vertices = true
+is_vertices _ = false
+
+-- commands that change a graph
+abbrev pub is_update : Command → Bool
+is_update command.Star = true
+is_update command.Edge = true
+is_update command.Cut = true
+is_update _ = false
+
+-- commands that stand in blocks alone
+abbrev pub is_inner : Command → Bool
+is_inner command.Ask = true
+is_inner command.End = true
+is_inner _ = false
+
+-- commands that begin a block, or stand in blocks alone
 abbrev pub is_of_block : Command → Bool
 is_of_block command.Block = true
-is_of_block command.Ask = true
-is_of_block command.End = true
-is_of_block _ = false
+is_of_block c = is_inner c
 
--- why a command cannot stand here, whatever its other words are; no mode has blocks yet
+-- whether a block has no room for what the command adds to it
+abbrev pub is_full : Context → Command → Bool
+is_full context command.Ask = nat_le MOST_IN_BLOCK context.asks
+is_full context c = is_update c && nat_le MOST_IN_BLOCK context.updates
+
+-- why a command cannot stand here, whatever its other words are
 abbrev pub misplaced : Context → Command → Option ℕ
-misplaced context command.Vertices = if context.vertices == 0 then None else Some VERTICES_TWICE
-misplaced context c = if is_of_block c then Some NEEDS_LIVE else (if context.vertices == 0 then Some NO_VERTICES else None)
+misplaced context c =
+    if context.live && (not context.inside && is_inner c) then Some COMMAND
+    else (if not context.live && is_of_block c then Some NEEDS_LIVE
+    else (if context.inside && not (is_update c || is_inner c) then Some OPEN_BLOCK
+    else (if is_vertices c then (if context.vertices == 0 then None else Some VERTICES_TWICE)
+    else (if context.vertices == 0 then Some NO_VERTICES
+    else (if context.inside && is_full context c then Some BLOCK_FULL
+    else None)))))
 
 -- where a command takes so many words behind it, the place of the first word too many, or of the one
 -- that is missing
@@ -75,27 +101,62 @@ abbrev pub age_line : ℕ → List (List ℕ) → Result Line Refusal
 age_line n [] = refused SHAPE 2
 age_line n (w ∷ ws) = vertices_at n 2 (w ∷ ws) >>= (λ us. Ok (Age us))
 
--- the meaning of the words behind a command
-abbrev pub line_with : Command → ℕ → List (List ℕ) → Result Line Refusal
-line_with command.Vertices n arguments = vertices_line arguments
-line_with command.Star n arguments = star_line n arguments
-line_with command.Edge n arguments = edge_line n arguments
-line_with command.Cut n arguments = cut_line n arguments
-line_with command.Dist n arguments = two_vertices n arguments >>= (λ p. Ok (Dist p.0 p.1))
-line_with command.Path n arguments = two_vertices n arguments >>= (λ p. Ok (Path p.0 p.1))
-line_with command.Row n arguments = row_line n arguments
-line_with command.Stats n arguments = stats_line arguments
-line_with command.Age n arguments = age_line n arguments
-line_with command.Cert n arguments = cert_line arguments
-line_with _ n arguments = refused NEEDS_LIVE 1
+abbrev pub block_line : List (List ℕ) → Result Line Refusal
+block_line [] = Ok Block
+block_line arguments = misshapen 0 arguments
 
-abbrev pub line_unless : Option ℕ → Command → ℕ → List (List ℕ) → Result Line Refusal
-line_unless (Some code) c n arguments = refused code 1
-line_unless None c n arguments = line_with c n arguments
+abbrev pub end_line : List (List ℕ) → Result Line Refusal
+end_line [] = Ok End
+end_line arguments = misshapen 0 arguments
+
+-- the word of the number behind `since`
+abbrev pub since_number : List (List ℕ) → Result (Option (List ℕ)) Refusal
+since_number [] = refused SHAPE 5
+since_number (w ∷ []) = Ok (Some w)
+since_number (w ∷ v ∷ ws) = refused SHAPE 6
+
+-- the same, or none, of what stands behind the vertices of a question
+abbrev pub since_word : List (List ℕ) → Result (Option (List ℕ)) Refusal
+since_word [] = Ok None
+since_word (w ∷ ws) = if is_since w then since_number ws else refused SHAPE 4
+
+-- how many updates a question asks for, where its block has so many so far: none where no word says
+abbrev pub since_at : ℕ → Option (List ℕ) → Result ℕ Refusal
+since_at so_far None = Ok 0
+since_at so_far (Some w) = number_at 5 w >>= (λ j. if nat_lt so_far j then refused SINCE 5 else Ok j)
+
+abbrev pub ask_line : ℕ → ℕ → List (List ℕ) → Result Line Refusal
+ask_line n so_far [] = refused SHAPE 2
+ask_line n so_far (a ∷ []) = refused SHAPE 3
+ask_line n so_far (a ∷ b ∷ ws) =
+    since_word ws >>= (λ number.
+    vertex_at n 2 a >>= (λ x.
+    vertex_at n 3 b >>= (λ y.
+    since_at so_far number >>= (λ since. Ok (Ask x y since)))))
+
+-- the meaning of the words behind a command
+abbrev pub line_with : Command → Context → List (List ℕ) → Result Line Refusal
+line_with command.Vertices context arguments = vertices_line arguments
+line_with command.Star context arguments = star_line context.vertices arguments
+line_with command.Edge context arguments = edge_line context.vertices arguments
+line_with command.Cut context arguments = cut_line context.vertices arguments
+line_with command.Dist context arguments = two_vertices context.vertices arguments >>= (λ p. Ok (Dist p.0 p.1))
+line_with command.Path context arguments = two_vertices context.vertices arguments >>= (λ p. Ok (Path p.0 p.1))
+line_with command.Row context arguments = row_line context.vertices arguments
+line_with command.Stats context arguments = stats_line arguments
+line_with command.Age context arguments = age_line context.vertices arguments
+line_with command.Cert context arguments = cert_line arguments
+line_with command.Block context arguments = block_line arguments
+line_with command.Ask context arguments = ask_line context.vertices context.updates arguments
+line_with command.End context arguments = end_line arguments
+
+abbrev pub line_unless : Option ℕ → Command → Context → List (List ℕ) → Result Line Refusal
+line_unless (Some code) c context arguments = refused code 1
+line_unless None c context arguments = line_with c context arguments
 
 abbrev pub command_line : Context → Option Command → List (List ℕ) → Result Line Refusal
 command_line context None arguments = refused COMMAND 1
-command_line context (Some c) arguments = line_unless (misplaced context c) c context.vertices arguments
+command_line context (Some c) arguments = line_unless (misplaced context c) c context arguments
 
 abbrev pub line_of_words : Context → List (List ℕ) → Result Line Refusal
 line_of_words context [] = Ok Nothing

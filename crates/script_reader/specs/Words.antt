@@ -53,5 +53,9 @@ is_out w = bytes_eq w (codes "out")
 abbrev pub is_in : List ℕ → Bool
 is_in w = bytes_eq w (codes "in")
 
+-- the word before the number of updates that a question asks for
+abbrev pub is_since : List ℕ → Bool
+is_since w = bytes_eq w (codes "since")
+
 abbrev pub group_of : List ℕ → Option Group
 group_of w = if is_out w then Some Out else (if is_in w then Some In else None)

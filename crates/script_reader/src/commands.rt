@@ -1,10 +1,10 @@
 //! The command words, and the words that begin a group of a star.
 ghost use Rattle.std.specs.Prelude.{◌≡◌};
 ghost use Rattle.std.specs.Str.{bytes_eq};
-ghost use Rattle.script_reader.specs.Words.{command_of, group_of, is_out, is_in, is_comment};
-ghost use Rattle.script_reader.specs.Meaning.{misplaced};
+ghost use Rattle.script_reader.specs.Words.{command_of, group_of, is_out, is_in, is_since, is_comment};
+ghost use Rattle.script_reader.specs.Meaning.{is_update, is_inner, is_of_block, is_full, misplaced};
 
-use crate::{Command, Context, Group, code};
+use crate::{Command, Context, Group, MOST_IN_BLOCK, code};
 
 /// The command that a word names.
 #[tactic(auto, unfolding(crate::specs::Words::command_of))]
@@ -47,10 +47,50 @@ pub fn misplaced(context: &Context, command: Command) -> Option<u32>
     ensures { result ≡ misplaced context.now command }
 {
     let named = context.vertices != 0;
+    if context.live && !context.inside && is_inner(command) {
+        Some(code::COMMAND)
+    } else if !context.live && is_of_block(command) {
+        Some(code::NEEDS_LIVE)
+    } else if context.inside && !is_update(command) && !is_inner(command) {
+        Some(code::OPEN_BLOCK)
+    } else if matches!(command, Command::Vertices) {
+        named.then_some(code::VERTICES_TWICE)
+    } else if !named {
+        Some(code::NO_VERTICES)
+    } else {
+        (context.inside && is_full(context, command)).then_some(code::BLOCK_FULL)
+    }
+}
+
+/// Whether a command changes a graph.
+fn is_update(command: Command) -> bool
+    ensures { result ≡ is_update command }
+{
+    matches!(command, Command::Star | Command::Edge | Command::Cut)
+}
+
+/// Whether a command stands in blocks alone.
+fn is_inner(command: Command) -> bool
+    ensures { result ≡ is_inner command }
+{
+    matches!(command, Command::Ask | Command::End)
+}
+
+/// Whether a command begins a block, or stands in blocks alone.
+fn is_of_block(command: Command) -> bool
+    ensures { result ≡ is_of_block command }
+{
+    matches!(command, Command::Block) || is_inner(command)
+}
+
+/// Whether the open block has no room for what the command adds to it.
+fn is_full(context: &Context, command: Command) -> bool
+    ensures { result ≡ is_full context.now command }
+{
     match command {
-        Command::Block | Command::Ask | Command::End => Some(code::NEEDS_LIVE),
-        Command::Vertices => named.then_some(code::VERTICES_TWICE),
-        _ => (!named).then_some(code::NO_VERTICES),
+        Command::Star | Command::Edge | Command::Cut => context.updates >= MOST_IN_BLOCK,
+        Command::Ask => context.asks >= MOST_IN_BLOCK,
+        _ => false,
     }
 }
 
@@ -86,6 +126,13 @@ pub fn is_in(word: &[u8]) -> bool
     ensures { result ≡ is_in word.now }
 {
     is(word, b"in")
+}
+
+/// Whether a word stands before the number of updates that a question asks for.
+pub fn is_since(word: &[u8]) -> bool
+    ensures { result ≡ is_since word.now }
+{
+    is(word, b"since")
 }
 
 fn is(word: &[u8], name: &[u8]) -> bool

@@ -1,7 +1,7 @@
 //! The lines of a script: what each means, or why and where it is refused.
 #![tactic(auto)]
 
-ghost use Rattle.std.specs.Prelude.{◌≡◌, ◌≤◌, false, IfOk};
+ghost use Rattle.std.specs.Prelude.{◌≡◌, ◌≤◌, Bool, ℕ, IfOk};
 ghost use Rattle.script_reader.specs.Scan.{words_left};
 ghost use Rattle.script_reader.specs.Meaning.{line_of, line_of_words};
 ghost use Rattle.script_reader.specs.Answer.{IsAnswer, Fits};
@@ -30,6 +30,9 @@ pub const MOST_LINE_BYTES: usize = 65536;
 /// The most digits of a number.
 pub const MOST_DIGITS: usize = 19;
 
+/// The most updates of a block, and the most questions of one.
+pub const MOST_IN_BLOCK: u32 = 65536;
+
 /// The codes of refused lines.
 pub mod code {
     /// No line `vertices` was accepted yet.
@@ -52,8 +55,14 @@ pub mod code {
     pub const WEIGHT: u32 = 9;
     /// The line has more than `MOST_LINE_BYTES` bytes.
     pub const TOO_LONG: u32 = 10;
-    /// The command stands in blocks alone, and this mode has none.
+    /// The command is of blocks, and this mode has none.
     pub const NEEDS_LIVE: u32 = 11;
+    /// The block has `MOST_IN_BLOCK` questions, or so many updates, and this were one more.
+    pub const BLOCK_FULL: u32 = 12;
+    /// A command that cannot stand in a block, or the end of the input in one.
+    pub const OPEN_BLOCK: u32 = 13;
+    /// A question asks for more updates than its block has accepted before it.
+    pub const SINCE: u32 = 14;
 }
 
 /// What a line's meaning depends on.
@@ -118,6 +127,10 @@ pub enum Line {
     Stats,
     Age(VertexList),
     Cert,
+    Block,
+    /// A question in a block, about the walks from x to y after at least so many of its updates.
+    Ask { x: u32, y: u32, since: u32 },
+    End,
 }
 
 /// The first words that are commands.
@@ -150,9 +163,8 @@ enum Group {
 /// the star, or for the vertices of `age`, alone.
 pub fn read_line(alloc: Global, bytes: &[u8], context: &Context) -> Result<Line, LineError>
     requires vertices { context.now.vertices ≤ MOST_VERTICES }
-    requires no_blocks { (context.now.live ≡ false) × (context.now.inside ≡ false) }
     ensures answer { IsAnswer (line_of context.now bytes.now) result }
-    ensures fits { IfOk result (Fits context.now.vertices) }
+    ensures fits { IfOk result (Fits context.now) }
 {
     if bytes.len() > MOST_LINE_BYTES {
         return Err(refused(code::TOO_LONG, 0));
@@ -182,7 +194,7 @@ fn line_of_words(alloc: Global, mut words: Words<'_>, context: &Context) -> Resu
     if let Some(code) = misplaced(context, command) {
         return Err(refused(code, 1));
     }
-    line_with(alloc, command, context.vertices, words)
+    line_with(alloc, command, context, words)
 }
 
 /// A refusal of a word or a line.
@@ -213,7 +225,13 @@ mod tests {
     fn answer(alloc: Global, vertices: u32, bytes: &[u8]) -> Result<(u32, u32), [u32; 3]>
         requires { vertices ≤ MOST_VERTICES }
     {
-        match read_line(alloc, bytes, &context(vertices)) {
+        answer_at(alloc, &context(vertices), bytes)
+    }
+
+    fn answer_at(alloc: Global, context: &Context, bytes: &[u8]) -> Result<(u32, u32), [u32; 3]>
+        requires { context.now.vertices ≤ MOST_VERTICES }
+    {
+        match read_line(alloc, bytes, context) {
             Err(LineError::Refused { code, place }) => Ok((code, place)),
             Err(LineError::Memory) => Ok((0, 0)),
             Ok(line) => Err(numbers(&line)),
@@ -222,7 +240,7 @@ mod tests {
 
     fn numbers(line: &Line) -> [u32; 3] {
         match line {
-            Line::Nothing | Line::Stats | Line::Cert => [0, 0, 0],
+            Line::Nothing | Line::Stats | Line::Cert | Line::Block | Line::End => [0, 0, 0],
             Line::Vertices(n) => [*n, 0, 0],
             Line::Star(star) => [star.vertex(), star.vertices(), 0],
             Line::Edge { u, v, w } => [*u, *v, *w],
@@ -230,6 +248,7 @@ mod tests {
             Line::Dist { x, y } | Line::Path { x, y } => [*x, *y, 0],
             Line::Row { x } => [*x, 0, 0],
             Line::Age(list) => [list.items().len().min(9) as u32, 0, 0],
+            Line::Ask { x, y, since } => [*x, *y, *since],
         }
     }
 
@@ -272,6 +291,7 @@ mod tests {
             (2, "edge 0 1 4294967296", (9, 4)),
             (2, "block", (11, 1)),
             (0, "ask 0 1", (11, 1)),
+            (3, "end 0 0", (11, 1)),
         ] {
             if vertices <= MOST_VERTICES {
                 let given = answer(rt.alloc(), vertices, line.as_bytes());
@@ -301,6 +321,66 @@ mod tests {
             if vertices <= MOST_VERTICES {
                 let given = answer(rt.alloc(), vertices, line.as_bytes());
                 assert_eq!(rt; given, Err(wanted), "{line}");
+            }
+        }
+    }
+
+    /// A context in a mode with blocks, on three vertices.
+    fn live(inside: bool, updates: u32, asks: u32) -> Context
+        ensures { result ≡ record { vertices = 3; live = true; inside = inside; updates = updates; asks = asks } }
+    {
+        Context {
+            vertices: 3,
+            live: true,
+            inside,
+            updates,
+            asks,
+        }
+    }
+
+    #[test]
+    fn lines_of_blocks(rt: HostRuntime) {
+        let outside = live(false, 0, 0);
+        let begun = live(true, 2, 1);
+        let full = live(true, MOST_IN_BLOCK, MOST_IN_BLOCK);
+        for (context, line, wanted) in [
+            (outside, "block", Err([0, 0, 0])),
+            (outside, "block 1", Ok((4, 2))),
+            (outside, "ask 0 1", Ok((3, 1))),
+            (outside, "end", Ok((3, 1))),
+            (outside, "end 0", Ok((3, 1))),
+            (outside, "vertices 3", Ok((2, 1))),
+            (begun, "ask 0 1", Err([0, 1, 0])),
+            (begun, "ask 2 1 since 2", Err([2, 1, 2])),
+            (begun, "ask 0 1 since 3", Ok((14, 5))),
+            (begun, "ask 0 1 since 9999999999999999999", Ok((14, 5))),
+            (begun, "ask 0 1 since x", Ok((5, 5))),
+            (begun, "ask 0 3 since 3", Ok((6, 3))),
+            (begun, "ask 0 3 until 3", Ok((4, 4))),
+            (begun, "ask 0 x since 1 1", Ok((4, 6))),
+            (begun, "ask", Ok((4, 2))),
+            (begun, "ask 0", Ok((4, 3))),
+            (begun, "ask 0 1 since", Ok((4, 5))),
+            (begun, "end", Err([0, 0, 0])),
+            (begun, "end 0", Ok((4, 2))),
+            (begun, "# roads", Err([0, 0, 0])),
+            (begun, "star 1", Err([1, 3, 0])),
+            (begun, "edge 0 1 5", Err([0, 1, 5])),
+            (begun, "cut 0 1", Err([0, 1, 0])),
+            (begun, "dist 0 9", Ok((13, 1))),
+            (begun, "path 0", Ok((13, 1))),
+            (begun, "block", Ok((13, 1))),
+            (begun, "vertices 3", Ok((13, 1))),
+            (begun, "cert", Ok((13, 1))),
+            (full, "ask 0 1 since 65536", Ok((12, 1))),
+            (full, "star 9", Ok((12, 1))),
+            (full, "cut 0", Ok((12, 1))),
+            (full, "dist 0 1", Ok((13, 1))),
+            (full, "end", Err([0, 0, 0])),
+        ] {
+            if context.vertices <= MOST_VERTICES {
+                let given = answer_at(rt.alloc(), &context, line.as_bytes());
+                assert_eq!(rt; given, wanted, "{line}");
             }
         }
     }

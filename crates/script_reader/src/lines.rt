@@ -1,30 +1,33 @@
 //! The lines of each command: the shape of all its words first, and then the words from left to right.
 ghost use Rattle.std.specs.Prelude.{◌≡◌, ℕ, IfOk};
+ghost use Rattle.std.specs.Option.{ForSome};
 ghost use Rattle.graph_store.specs.Making.{IsVertexCount};
 ghost use Rattle.script_reader.specs.Scan.{words_left};
-ghost use Rattle.script_reader.specs.Answer.{IsAnswer, IsOne, AreTwo, AreThree, IsRequired, IsAtEnd, IsListAnswer};
-ghost use Rattle.script_reader.specs.Meaning.{vertices_line, star_line, edge_line, cut_line, two_vertices, row_line, stats_line, age_line, cert_line, line_with};
+ghost use Rattle.script_reader.specs.Answer.{IsAnswer, IsOne, AreTwo, AreThree, IsRequired, IsAtEnd, IsListAnswer, IsSinceAnswer, bytes_of};
+ghost use Rattle.script_reader.specs.Meaning.{vertices_line, star_line, edge_line, cut_line, two_vertices, row_line, stats_line, age_line, cert_line, block_line, ask_line, since_word, since_at, end_line, line_with};
 ghost use Rattle.script_reader.specs.Edges.{vertices_at};
 
+use crate::commands::is_since;
 use crate::groups::{first_misfit, set_groups};
 use crate::items::{number_at, vertex_at, weight_at};
 use crate::scan::{Word, Words};
-use crate::{Command, Line, LineError, VertexList, code, refused};
+use crate::{Command, Context, Line, LineError, VertexList, code, refused};
 use apsp_model::MOST_VERTICES;
 use graph_store::Star;
 use std::alloc::Global;
 
-/// The line of a command, whose words behind it are left. The number of vertices is n.
+/// The line of a command that can stand here, whose words behind it are left.
 pub fn line_with(
     alloc: Global,
     command: Command,
-    n: u32,
+    context: &Context,
     words: Words<'_>,
 ) -> Result<Line, LineError>
     requires place { words.place ≡ 2 }
-    requires count { command ≡ Command.Star → IsVertexCount n }
-    ensures { IsAnswer (line_with command n (words_left words.entry)) result }
+    requires count { command ≡ Command.Star → IsVertexCount context.now.vertices }
+    ensures { IsAnswer (line_with command context.now (words_left words.entry)) result }
 {
+    let n = context.vertices;
     match command {
         Command::Vertices => vertices_line(words),
         Command::Star => star_line(alloc, n, words),
@@ -42,7 +45,9 @@ pub fn line_with(
         Command::Stats => stats_line(words),
         Command::Age => age_line(alloc, n, words),
         Command::Cert => cert_line(words),
-        Command::Block | Command::Ask | Command::End => Err(refused(code::NEEDS_LIVE, 1)),
+        Command::Block => block_line(words),
+        Command::Ask => ask_line(n, context.updates, words),
+        Command::End => end_line(words),
     }
 }
 
@@ -143,6 +148,66 @@ fn age_line(alloc: Global, n: u32, words: Words<'_>) -> Result<Line, LineError>
         return Err(refused(code::SHAPE, place));
     }
     Ok(Line::Age(VertexList { items }))
+}
+
+fn block_line(words: Words<'_>) -> Result<Line, LineError>
+    requires { words.place ≡ 2 }
+    ensures { IsAnswer (block_line (words_left words.entry)) result }
+{
+    at_end(words)?;
+    Ok(Line::Block)
+}
+
+fn end_line(words: Words<'_>) -> Result<Line, LineError>
+    requires { words.place ≡ 2 }
+    ensures { IsAnswer (end_line (words_left words.entry)) result }
+{
+    at_end(words)?;
+    Ok(Line::End)
+}
+
+/// A question in a block that has accepted so many updates.
+fn ask_line(n: u32, so_far: u32, mut words: Words<'_>) -> Result<Line, LineError>
+    requires { words.place ≡ 2 }
+    ensures { IsAnswer (ask_line n so_far (words_left words.entry)) result }
+{
+    let from = required(&mut words)?;
+    let to = required(&mut words)?;
+    let number = since_word(words)?;
+    let x = vertex_at(n, from)?;
+    let y = vertex_at(n, to)?;
+    let since = since_at(so_far, number)?;
+    Ok(Line::Ask { x, y, since })
+}
+
+/// The word of the number behind `since`, where that stands.
+fn since_word(mut words: Words<'_>) -> Result<Option<Word<'_>>, LineError>
+    requires { words.place ≡ 4 }
+    ensures { IsSinceAnswer (since_word (words_left words.entry)) result }
+{
+    let Some(word) = words.next() else {
+        return Ok(None);
+    };
+    if !is_since(word.bytes) {
+        return Err(refused(code::SHAPE, word.place));
+    }
+    let number = one(words)?;
+    Ok(Some(number))
+}
+
+/// How many updates a question asks for, where its block has so many so far: none where no word says.
+fn since_at(so_far: u32, word: Option<Word<'_>>) -> Result<u32, LineError>
+    requires { ForSome word (λ w. w.place ≡ 5) }
+    ensures { IsAnswer (since_at so_far (bytes_of word.entry)) result }
+{
+    let Some(word) = word else {
+        return Ok(0);
+    };
+    let number = number_at(word.place, word.bytes)?;
+    if number > u64::from(so_far) {
+        return Err(refused(code::SINCE, word.place));
+    }
+    Ok(number as u32)
 }
 
 /// The vertices that the words name.

@@ -1,0 +1,168 @@
+-- Lines lead to lawful states.
+use Rattle.std.proofs.Common.{◌≡◌, ℕ, ◌+◌, ◌<◌, ◌≤◌, List, [], ◌∷◌, ◌++◌, length, length-append, refl, sym, ap, subst, ◌∙◌, arith}
+use Rattle.std.specs.Prelude.{Bool, Option, Some, None, Result, Ok, Err, All, IfSome, slice_get, ◌-◌}
+use Rattle.std.proofs.lemmas.List.Elements.{All-nil, All-cons, All-append}
+use Rattle.apsp_model.specs.declared.TheConstants.{MOST_VERTICES}
+use Rattle.apsp_model.specs.Graph.{Graph}
+use Rattle.apsp_model.specs.Star.{Star, star_of}
+use Rattle.apsp_model.specs.Command.{Command, Update, graph_of}
+use Rattle.script_reader.specs.Answer.{Fits}
+use Rattle.script_reader.specs.Meaning.{line_of}
+use Rattle.script_reader.specs.Refused.{Refusal}
+use Rattle.script_reader.specs.declared.Line.{Line}
+use Rattle.script_reader.specs.declared.Line.TheVariants as line
+use Rattle.script_reader.proofs.Fitting.{accepted_fits}
+use Rattle.block_run.specs.declared.asks.Ask.{Ask}
+use Rattle.graph_store.specs.Plan.{Plan, graph_after, with_star, hi_of}
+use Rattle.block_run.specs.Answers.{IsAskOf}
+use Rattle.apsp_service.specs.Blocks.{Block, updates_in}
+use Rattle.apsp_service.specs.Session.{State, opening, context_at, context_of, graph_here, star_with, updated, updated_in, begun_in, asked_in, ended_in, accepted, counted, after_read, after_line, after_lines}
+use Rattle.apsp_service.specs.Lawful.{IsBlockOf, IsLawful}
+
+pub graph_vertices : (n : ℕ) (commands : List Command) → (graph_of n commands).vertices ≡ n
+graph_vertices n [] = refl
+graph_vertices n (Update s ∷ earlier) = graph_vertices n earlier
+
+pub after_vertices : (g : Graph) (stars : List Star) → (graph_after g stars).vertices ≡ g.vertices
+after_vertices g [] = refl
+after_vertices g (s ∷ stars) = after_vertices (star_of g s) stars
+
+pub opening_lawful : (readers : Option ℕ) (smooth : Bool) → IsLawful (opening readers smooth)
+opening_lawful readers smooth = record { most = omega arith; block = tt; live = λ none. refl }
+
+-- the block that is open
+pub block_of : (s : State) (b : Block) → IsLawful s → s.block ≡ Some b → IsBlockOf s.vertices s.commands b
+block_of s b h e = let F : Option Block → Type 0 = λ o. IfSome o (IsBlockOf s.vertices s.commands) in subst F e h.block
+
+some_block : (s : State) (b : Block) → s.block ≡ Some b → s.block ≡ None → ⊥
+some_block s b e none = let k : Some b ≡ None = sym e ∙ none in cc
+
+begun_lawful : (s : State) → IsLawful s → IsLawful (begun_in s s.readers)
+begun_lawful s h = at s.readers refl
+  where
+    at : (r : Option ℕ) → s.readers ≡ r → IsLawful (begun_in s r)
+    at None e = h
+    at (Some n) e = record {
+      most = h.most;
+      block = record { start = refl; lo = refl; stars = All-nil (λ (star : Star). star.vertices ≡ s.vertices); asks = All-nil _ };
+      live = λ none. absurd (let k : Some n ≡ None = sym e ∙ none in cc);
+    }
+
+pub here_vertices : (s : State) → IsLawful s → (graph_here s s.block).vertices ≡ s.vertices
+here_vertices s h = at s.block refl
+  where
+    at : (o : Option Block) → s.block ≡ o → (graph_here s o).vertices ≡ s.vertices
+    at None e = graph_vertices s.vertices s.commands
+    at (Some b) e = after_vertices b.plan.start b.plan.stars ∙ ap (λ (g : Graph). g.vertices) (block_of s b h e).start ∙ graph_vertices s.vertices s.commands
+
+more_stars : (p : Plan) (star : Star) (ask : Ask) → IsAskOf p ask → IsAskOf (with_star p star) ask
+more_stars p star ask h = record { from = h.from; to = h.to; since = omega (arith, h.since, length-append p.stars (star ∷ [])) }
+
+pub updated_lawful : (s : State) (star : Star) → IsLawful s → star.vertices ≡ s.vertices → IsLawful (updated s star)
+updated_lawful s star h same = at s.block refl
+  where
+    at : (o : Option Block) → s.block ≡ o → IsLawful (updated_in s o star)
+    at None e = record { most = h.most; block = let F : Option Block → Type 0 = λ o. IfSome o (IsBlockOf s.vertices (Update star ∷ s.commands)) in subst F (sym e) tt; live = h.live }
+    at (Some b) e =
+        let k = block_of s b h e in
+        let P : Star → Type 0 = λ t. t.vertices ≡ s.vertices in
+        record {
+          most = h.most;
+          live = λ none. absurd (some_block s b e (h.live none));
+          block = record {
+            start = k.start;
+            lo = k.lo;
+            stars = All-append P b.plan.stars (star ∷ []) k.stars (All-cons P star [] same (All-nil P));
+            asks = λ i d l. more_stars b.plan star _ (k.asks i d l);
+          };
+        }
+
+asked_lawful : (s : State) (ask : Ask) → IsLawful s → ask.x < s.vertices → ask.y < s.vertices → ask.since ≤ updates_in s.block → IsLawful (asked_in s s.block ask)
+asked_lawful s ask h x y since = at s.block refl since
+  where
+    at : (o : Option Block) → s.block ≡ o → ask.since ≤ updates_in o → IsLawful (asked_in s o ask)
+    at None e l = h
+    at (Some b) e l =
+        let k = block_of s b h e in
+        let size : b.plan.start.vertices ≡ s.vertices = ap (λ (g : Graph). g.vertices) k.start ∙ graph_vertices s.vertices s.commands in
+        record {
+          most = h.most;
+          live = λ none. absurd (some_block s b e (h.live none));
+          block = record {
+            start = k.start;
+            lo = k.lo;
+            stars = k.stars;
+            asks = All-append (IsAskOf b.plan) b.asks (ask ∷ []) k.asks (All-cons (IsAskOf b.plan) ask [] (record { from = omega (arith, x, size); to = omega (arith, y, size); since = l }) (All-nil (IsAskOf b.plan)));
+          };
+        }
+
+ended_lawful : (s : State) → IsLawful s → IsLawful (ended_in s s.block)
+ended_lawful s h = at s.block
+  where
+    at : (o : Option Block) → IsLawful (ended_in s o)
+    at None = h
+    at (Some b) = record { most = h.most; block = tt; live = λ none. refl }
+
+pub accepted_lawful : (s : State) (l : Line) → IsLawful s → (readers : Option ℕ) → Fits (context_at s.vertices readers s.block) l → IsLawful (accepted s l)
+accepted_lawful s line.Nothing h readers f = h
+accepted_lawful s (line.Vertices n) h readers f = record { most = f.1.most; block = tt; live = λ none. refl }
+accepted_lawful s (line.Star star) h readers f = updated_lawful s star h f.0
+accepted_lawful s (line.Edge u v w) h readers f = updated_lawful s (star_with (graph_here s s.block) u v (Some w)) h (here_vertices s h)
+accepted_lawful s (line.Cut u v) h readers f = updated_lawful s (star_with (graph_here s s.block) u v None) h (here_vertices s h)
+accepted_lawful s line.Block h readers f = begun_lawful s h
+accepted_lawful s (line.Ask x y since) h readers f = asked_lawful s (record { x = x; y = y; since = since }) h f.1 f.2 f.3
+accepted_lawful s line.End h readers f = ended_lawful s h
+accepted_lawful s (line.Dist x y) h readers f = h
+accepted_lawful s (line.Path x y) h readers f = h
+accepted_lawful s (line.Row x) h readers f = h
+accepted_lawful s line.Stats h readers f = h
+accepted_lawful s (line.Age list) h readers f = h
+accepted_lawful s line.Cert h readers f = h
+
+pub line_lawful : (s : State) (bytes : List ℕ) → IsLawful s → IsLawful (after_line s bytes)
+line_lawful s bytes h = at (line_of (context_of s) bytes) refl
+  where
+    at : (r : Result Line Refusal) → line_of (context_of s) bytes ≡ r → IsLawful (after_read s r)
+    at (Ok l) e = accepted_lawful (counted s) l (record { most = h.most; block = h.block; live = h.live }) s.readers (accepted_fits (context_of s) bytes l h.most e)
+    at (Err refusal) e = record { most = h.most; block = h.block; live = h.live }
+
+pub lines_lawful : (s : State) (lines : List (List ℕ)) → IsLawful s → IsLawful (after_lines s lines)
+lines_lawful s [] h = h
+lines_lawful s (bytes ∷ lines) h = lines_lawful (after_line s bytes) lines (line_lawful s bytes h)
+
+-- the graph after one star more, which is the last of the list
+after_more : (g : Graph) (stars : List Star) (star : Star) → graph_after g (stars ++ star ∷ []) ≡ star_of (graph_after g stars) star
+after_more g [] star = refl
+after_more g (s ∷ stars) star = after_more (star_of g s) stars star
+
+seam : (stars : List Star) (star : Star) → slice_get (stars ++ star ∷ []) (length stars) ≡ Some star
+seam [] star = refl
+seam (s ∷ stars) star = seam stars star
+
+last_is : (stars : List Star) (star found : Star) → Some found ≡ slice_get (stars ++ star ∷ []) (length (stars ++ star ∷ []) - 1) → found ≡ star
+last_is stars star found e =
+    let place : length (stars ++ star ∷ []) - 1 ≡ length stars = omega (arith, length-append stars (star ∷ [])) in
+    let at : Some found ≡ Some star = e ∙ ap (slice_get (stars ++ star ∷ [])) place ∙ seam stars star in
+    cc
+
+pub last_more : (g : Graph) (stars now : List Star) (star found : Star) (last new : Graph) → last ≡ graph_after g stars → now ≡ stars ++ star ∷ [] → Some found ≡ slice_get now (length now - 1) → new ≡ star_of last found → new ≡ graph_after g now
+last_more g stars now star found last new was is e made =
+    let F : List Star → Type 0 = λ ss. Some found ≡ slice_get ss (length ss - 1) in
+    made ∙ (λ i. star_of (was i) (last_is stars star found (subst F is e) i)) ∙ sym (after_more g stars star) ∙ ap (graph_after g) (sym is)
+
+-- the star that a plan has for its last number is the one that was put behind it
+found_is : (p q : Plan) (star found : Star) (number : ℕ) → q ≡ with_star p star → number ≡ hi_of q → slice_get q.stars (number - q.lo - 1) ≡ Some found → Some found ≡ slice_get (p.stars ++ star ∷ []) (length (p.stars ++ star ∷ []) - 1)
+found_is p q star found number is at e =
+    let G : Plan → Type 0 = λ z. slice_get z.stars (number - z.lo - 1) ≡ Some found in
+    let top : number ≡ p.lo + length (p.stars ++ star ∷ []) = at ∙ ap hi_of is in
+    let place : number - p.lo - 1 ≡ length (p.stars ++ star ∷ []) - 1 = omega (arith, top) in
+    sym (subst G is e) ∙ ap (slice_get (p.stars ++ star ∷ [])) place
+
+pub found_vertices : (p q : Plan) (star found : Star) (number : ℕ) (last : Graph) → last ≡ graph_after p.start p.stars → q ≡ with_star p star → number ≡ hi_of q → slice_get q.stars (number - q.lo - 1) ≡ Some found → star.vertices ≡ (graph_after p.start p.stars).vertices → found.vertices ≡ last.vertices
+found_vertices p q star found number last was is at e same =
+    ap (λ (s : Star). s.vertices) (last_is p.stars star found (found_is p q star found number is at e)) ∙ same ∙ ap (λ (g : Graph). g.vertices) (sym was)
+
+pub apply_last : (p q : Plan) (star found : Star) (number : ℕ) (last new : Graph) → last ≡ graph_after p.start p.stars → q ≡ with_star p star → number ≡ hi_of q → slice_get q.stars (number - q.lo - 1) ≡ Some found → new ≡ star_of last found → new ≡ graph_after q.start q.stars
+apply_last p q star found number last new was is at e made =
+    let F : Plan → Type 0 = λ z. new ≡ graph_after z.start z.stars in
+    subst F (sym is) (last_more p.start p.stars (p.stars ++ star ∷ []) star found last new was refl (found_is p q star found number is at e) made)

@@ -1,0 +1,8 @@
+-- What holds of the fields of an open block.
+use Rattle.std.specs.Prelude.{◌≡◌}
+use Rattle.apsp_service.specs.declared.block.OpenBlock.TheInside.{Inside}
+use Rattle.apsp_service.specs.Blocks.{last_graph}
+
+-- the graph after its updates is at hand
+abbrev pub HasLast : Inside → Type 0
+HasLast b = b.last ≡ last_graph b.plan

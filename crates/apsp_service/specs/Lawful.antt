@@ -1,0 +1,20 @@
+-- What holds of the block of a state that lines lead to.
+use Rattle.std.specs.Prelude.{◌≡◌, ℕ, ◌≤◌, List, length, All, None, IfSome}
+use Rattle.apsp_model.specs.declared.TheConstants.{MOST_VERTICES}
+use Rattle.apsp_model.specs.Command.{Command, graph_of, vertices_of}
+use Rattle.apsp_model.specs.Star.{Star}
+use Rattle.block_run.specs.Answers.{IsAskOf}
+use Rattle.apsp_service.specs.Blocks.{Block}
+use Rattle.apsp_service.specs.Session.{State}
+
+-- the plan begins behind the commands, and its questions are about it
+pub record IsBlockOf (n : ℕ) (commands : List Command) (b : Block) : Type 0 where
+  pub start : b.plan.start ≡ graph_of n commands
+  pub lo : b.plan.lo ≡ length (vertices_of commands)
+  pub stars : All (λ (star : Star). star.vertices ≡ n) b.plan.stars
+  pub asks : All (IsAskOf b.plan) b.asks
+
+pub record IsLawful (s : State) : Type 0 where
+  pub most : s.vertices ≤ MOST_VERTICES
+  pub block : IfSome s.block (IsBlockOf s.vertices s.commands)
+  pub live : s.readers ≡ None → s.block ≡ None
