@@ -11,7 +11,8 @@ use Rattle.path_arena.specs.Arena.{IsLive, list_of, path_of, id_cmp}
 use Rattle.pair_heaps.specs.Heaps.{HasEnds}
 use Rattle.path_book.specs.Book.{Book, IsMarked, IsLeastKept, KeepsNone, HasNoPendingLeast}
 use Rattle.weight_classes.specs.Classes.{Classes, Rank, IsHeld}
-use Rattle.fixup_math.proofs.Ranks.{ByWeightThenHops, weight_then_hops_is_rank}
+use Rattle.fixup_math.specs.Ranks.{ByWeightThenHops}
+use Rattle.fixup_math.proofs.Ranks.{weight_then_hops_is_rank}
 use Rattle.fixup_math.proofs.Settling.{settled}
 use Rattle.fixup.proofs.Growth.{id_weight}
 use Rattle.fixup.specs.Views.{HeldIn, Kept, Marked, WonIn}
