@@ -408,3 +408,41 @@ fn a_reader_holds_versions_beside_the_publisher(rt: HostRuntime) -> Result<(), F
     assert_eq!(rt; tally.lost(), 0);
     Ok(())
 }
+
+/// How many of the readers show this in one hold.
+fn showing(mut readers: Vec<Reader>, pool: &Pool<'_>, wanted: (u64, u64)) -> u32
+    requires { All (IsReaderOf pool.now) readers.items }
+{
+    let mut tally = Tally::new();
+    let mut count = 0u32;
+    for _ in 0..MOST_READERS {
+        let Some(mut reader) = take_reader(&mut readers, pool) else {
+            break;
+        };
+        if shown_at_once(&mut reader, pool, &mut tally) == Some(wanted) {
+            count = count.saturating_add(1);
+        }
+    }
+    count
+}
+
+#[test]
+fn every_reader_of_the_largest_pool_shows_the_last_number(rt: HostRuntime) -> Result<(), Fail> {
+    let alloc = rt.alloc();
+    let plan = updates(alloc)?;
+    let first = Version::new(alloc, 2)?;
+    let PoolParts {
+        pool,
+        mut publisher,
+        readers,
+    } = Pool::new(alloc, 64, 32, &plan, &first)?;
+    let mut present = Pair {
+        graph: Graph::new(alloc, 2)?,
+        number: 0,
+    };
+    let mut tally = Tally::new();
+    let announced = publish_all(&mut publisher, &pool, &plan, &mut present, &mut tally);
+    assert_eq!(rt; (announced, tally.lost()), (LAST, 0));
+    assert_eq!(rt; showing(readers, &pool, (LAST, LAST)), 32);
+    Ok(())
+}
