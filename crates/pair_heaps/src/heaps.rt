@@ -84,6 +84,8 @@ impl Heaps {
 
     /// Adds an id to its pair, from x to y, and says whether it is the least of the pair now. Memory
     /// comes only where the pair has no room left, and changes nothing.
+    ///
+    /// Compares as many paths as the logarithm of the number of ids of the pair.
     #[inline(always)]
     pub fn insert_between(
         &mut self,
@@ -123,6 +125,8 @@ impl Heaps {
     }
 
     /// Takes a held id out of its pair, from x to y, and says whether it was the least of the pair.
+    ///
+    /// Looks at each id of the pair, and compares as many paths as the logarithm of their number.
     #[inline(always)]
     pub fn remove_between(&mut self, arena: &Arena, id: PathId, x: u32, y: u32) -> bool
         requires from { x < self.old.vertices }
