@@ -1,15 +1,14 @@
 -- Where nothing is held any more, the least kept path of each pair is historical.
 use Rattle.std.specs.Prelude.{◌≡◌, ℕ, List, refl}
-use Rattle.std.specs.declared.cmp.Ordering.TheVariants.{Less}
 use Rattle.std.proofs.Common.{sym, ◌∙◌, ap, inl, inr}
 use Rattle.apsp_model.specs.Graph.{Graph}
 use Rattle.apsp_model.specs.Walk.{IsWalkFrom, weight_of, first, last}
 use Rattle.apsp_model.specs.Order.{path_cmp, IsBelow}
-use Rattle.apsp_model.specs.Least.{IsLeast, HasNoWalk}
+use Rattle.apsp_model.specs.Least.{IsLeast}
 use Rattle.apsp_model.proofs.Exists.{least_or_none}
-use Rattle.path_arena.specs.Arena.{IsLive, list_of, path_of, id_cmp}
+use Rattle.path_arena.specs.Arena.{IsLive, list_of, path_of}
 use Rattle.pair_heaps.specs.Heaps.{HasEnds}
-use Rattle.path_book.specs.Book.{Book, IsMarked, IsLeastKept, KeepsNone, HasNoPendingLeast}
+use Rattle.path_book.specs.Book.{Book, IsMarked, IsLeastKept, HasNoPendingLeast}
 use Rattle.weight_classes.specs.Classes.{Classes, Rank, IsHeld}
 use Rattle.fixup_math.specs.Ranks.{ByWeightThenHops}
 use Rattle.fixup_math.proofs.Ranks.{weight_then_hops_is_rank}

@@ -3,7 +3,7 @@ use Rattle.std.specs.Prelude.{◌≡◌, ◌≢◌, ℕ, ◌<◌, ◌⊎◌, ◌
 use Rattle.apsp_model.specs.Graph.{Graph, HasEdge}
 use Rattle.apsp_model.specs.Walk.{weight_of, first, last}
 use Rattle.path_arena.specs.Arena.{Arena, Path, path_at, list_of, IsLive}
-use Rattle.path_book.specs.Book.{Book, IsMarked, IsBook, ArePendingLeasts}
+use Rattle.path_book.specs.Book.{Book, IsBook, ArePendingLeasts}
 use Rattle.weight_classes.specs.Classes.{Classes, Rank, Fits, IsHeld, InOrder}
 use Rattle.fixup_math.specs.Settling.{IsForming as IsFormingOf}
 use Rattle.fixup_math.specs.Joins.{IsJoin, Then}

@@ -2,8 +2,7 @@
 use Rattle.std.specs.Prelude.{◌≡◌, ℕ, ◌⊎◌, Some, None}
 use Rattle.apsp_model.specs.Graph.{Graph, weight_at}
 use Rattle.path_arena.specs.Arena.{path_at, edge_path}
-use Rattle.path_book.specs.Book.{Book, IsMarked, with_kept, IsLeastKept, KeepsNone}
-use Rattle.weight_classes.specs.Classes.{Classes, IsPushed}
+use Rattle.path_book.specs.Book.{Book, with_kept}
 
 -- the edge from u to v is kept where the graph has it
 abbrev pub IsEdgeFormed : Graph → Book → ℕ → ℕ → ℕ → Book → Type 0

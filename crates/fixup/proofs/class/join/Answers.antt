@@ -2,7 +2,7 @@ use Rattle.std.proofs.Common.{◌≡◌, ℕ, ◌∙◌, sym, ap, subst, Some}
 use Rattle.apsp_model.specs.Walk.{first, last}
 use Rattle.path_arena.specs.Arena.{Arena, list_of}
 use Rattle.weight_classes.specs.Classes.{Fits}
-use Rattle.fixup.proofs.Joined.{fits_now, not_held, joined_held, joined_left}
+use Rattle.fixup.proofs.Joined.{fits_now, not_held, joined_left}
 use Rattle.fixup.proofs.class.join.Goals as goal
 
 same_vertex : (x y : ℕ) → Some x ≡ Some y → x ≡ y

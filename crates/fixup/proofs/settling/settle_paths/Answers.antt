@@ -2,7 +2,6 @@ use Rattle.std.proofs.Common.{sym, subst}
 use Rattle.path_book.specs.Book.{Book}
 use Rattle.fixup.specs.Growth.{IsAt, IsOver}
 use Rattle.fixup.specs.Stages.{Start}
-use Rattle.fixup.proofs.Heads.{queueing_starts}
 use Rattle.fixup.proofs.Resting.{none_pending}
 use Rattle.fixup.proofs.Wholes.{starts}
 use Rattle.fixup.proofs.settling.settle_paths.Goals as goal

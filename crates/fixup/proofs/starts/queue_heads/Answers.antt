@@ -1,4 +1,4 @@
-use Rattle.std.proofs.Common.{◌≡◌, ◌∙◌, OnOk, Contains, sym, ap, subst}
+use Rattle.std.proofs.Common.{◌∙◌, OnOk, Contains, sym, ap, subst}
 use Rattle.path_arena.specs.Arena.{Arena, IsLive}
 use Rattle.path_book.specs.Book.{Book}
 use Rattle.fixup.specs.Growth.{IsQueueing}
