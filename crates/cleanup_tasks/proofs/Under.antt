@@ -1,5 +1,5 @@
 -- The paths that lie under an edge at v, and the walks from the edges.
-use Rattle.std.specs.Prelude.{◌≡◌, ℕ, zero, suc, ◌+◌, ◌-◌, ◌<◌, ◌≤◌, ◌⊎◌, ◌↔◌, ⊤, Bool, true, false, ◌==◌, Option, Some, if◌then◌else◌, List, [], ◌∷◌, ◌++◌, length, take, unwrap_or, slice_index, slice_index_or, Result, Ok, Err, IfOk, refl, Contains}
+use Rattle.std.specs.Prelude.{◌≡◌, ℕ, zero, suc, ◌+◌, ◌-◌, ◌<◌, ◌≤◌, ◌↔◌, ⊤, Bool, true, false, ◌==◌, Some, if◌then◌else◌, List, [], ◌∷◌, ◌++◌, length, take, unwrap_or, slice_index, slice_index_or, Result, Ok, Err, IfOk, refl, Contains}
 use Rattle.std.specs.declared.alloc.Global.{Global}
 use Rattle.std.specs.declared.vec.Vec.{Vec}
 use Rattle.std.proofs.Common.{get_or, sym, ◌∙◌, ap, subst, arith, inl, inr}
@@ -105,12 +105,12 @@ module _ (b : Book) (was : IsBook b) (v : ℕ) (inside : v < b.arena.vertices) w
     exact = λ q. (
       λ c. (let d : Contains (behind ++ in_front) q = subst (λ xs. Contains xs q) are c in (w.walked.sound q d, w.walked.hops q d)),
       λ h. (
-        let p : ParentOf b was v q = parent_of b was v q h.0 in
-        let f : ChildFacts b was v p.parent q = child_facts b was v p.parent q p.passes p.is in
-        elim (single_or_through b was v p.parent p.passes) [
-          | inl single ↦ subst (λ xs. Contains xs q) (sym are) (w.walked.to q p.parent p.is (inl single))
-          | inr through ↦ absurd (let some : 1 ≤ hops_at b p.parent = some_hops b was v p.parent through in omega (arith, some, f.hops, h.1))
-        ]),
+          let p : ParentOf b was v q = parent_of b was v q h.0 in
+          let f : ChildFacts b was v p.parent q = child_facts b was v p.parent q p.passes p.is in
+          elim (single_or_through b was v p.parent p.passes) [
+            | inl single ↦ subst (λ xs. Contains xs q) (sym are) (w.walked.to q p.parent p.is (inl single))
+            | inr through ↦ absurd (let some : 1 ≤ hops_at b p.parent = some_hops b was v p.parent through in omega (arith, some, f.hops, h.1))
+          ]),
     );
     once = subst IsOnceEach (sym are) w.walked.once;
   }
@@ -296,8 +296,8 @@ module _ (b : Book) (was : IsBook b) (v : ℕ) (inside : v < b.arena.vertices) w
       exact = λ q. (
         λ c. (upto_in MOST_VERTICES q c).0,
         λ h. (
-          let most : length (list_of b.arena q) ≤ MOST_VERTICES = length_most b.arena q was.arena (live_from_edge b.arena q was.arena h.0) in
-          upto_has MOST_VERTICES q h (omega (arith, most))),
+            let most : length (list_of b.arena q) ≤ MOST_VERTICES = length_most b.arena q was.arena (live_from_edge b.arena q was.arena h.0) in
+            upto_has MOST_VERTICES q h (omega (arith, most))),
       );
       once = upto_once MOST_VERTICES;
       rising = upto_rising MOST_VERTICES;

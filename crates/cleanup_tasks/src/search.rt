@@ -80,7 +80,12 @@ impl Level {
 }
 
 /// The kept paths through v that have an edge, level by level.
-pub(crate) fn walk<G: Gate>(alloc: Global, book: &Book, v: u32, gate: &G) -> Result<Vec<PathId>, Memory>
+pub(crate) fn walk<G: Gate>(
+    alloc: Global,
+    book: &Book,
+    v: u32,
+    gate: &G,
+) -> Result<Vec<PathId>, Memory>
     requires vertex { v < book.now.arena.vertices }
     ensures all { IfOk result (λ ids. IsVictims book.now v ids.items) }
 {

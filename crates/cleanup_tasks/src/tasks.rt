@@ -17,7 +17,7 @@ use std::thread::Threads;
 use task_pool::{Job, run_tasks};
 
 /// From so many kept paths on, the paths through a vertex are looked for by several workers. Starting
-/// one costs about 20 µs of processor time, as much as a walk along some thousands of paths.
+/// one costs about 20 µs of processor time, so a short walk is the caller's.
 pub(crate) const MANY_PATHS: u64 = 65_536;
 
 /// Who looks for the paths through a vertex: so many workers, which pass the gate, where the book
@@ -65,12 +65,7 @@ impl<'a> Job for Edges<'a> {
     ghost gives = { λ e k levels. WalksAt e k levels.items };
 
     fn run(&self, task: u32) -> Result<Vec<Level>, Memory> {
-        levels_from(
-            self.alloc,
-            self.book,
-            self.vertex,
-            self.ids[task as usize],
-        )
+        levels_from(self.alloc, self.book, self.vertex, self.ids[task as usize])
     }
 }
 

@@ -1,10 +1,10 @@
-use Rattle.std.proofs.Common.{◌≡◌, ◌==◌, ◌+◌, ◌<◌, [], ◌∷◌, length, Contains, sym, ◌∙◌, ap, subst, arith}
+use Rattle.std.proofs.Common.{◌==◌, ◌+◌, ◌<◌, [], ◌∷◌, length, Contains, sym, ◌∙◌, ap, subst, arith}
 use Rattle.std.proofs.lemmas.List.{length-append}
 use Rattle.apsp_model.specs.declared.TheConstants.{MOST_VERTICES}
 use Rattle.std.proofs.lemmas.List.Elements.{Contains-append_left, Contains-append_right}
 use Rattle.path_arena.specs.Arena.{Arena, list_of}
 use Rattle.apsp_model.specs.Walk.{first}
-use Rattle.cleanup_tasks.specs.Walk.{begins_with, IsLonger}
+use Rattle.cleanup_tasks.specs.Walk.{IsLonger}
 use Rattle.cleanup_tasks.proofs.Under.{begins_is, from_starts, from_live, from_goes_on, from_most, from_ends}
 use Rattle.cleanup_tasks.proofs.tasks.levels_from.Goals as goal
 

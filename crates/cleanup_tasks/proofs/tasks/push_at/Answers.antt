@@ -1,5 +1,5 @@
-use Rattle.std.proofs.Common.{◌≡◌, ◌++◌, [], ◌∙◌, sym, ap, subst, arith, OnOk}
-use Rattle.cleanup_tasks.specs.Under.{paths_in, level_at}
+use Rattle.std.proofs.Common.{◌≡◌, ◌++◌, ◌∙◌, sym, ap, subst, arith, OnOk}
+use Rattle.cleanup_tasks.specs.Under.{paths_in}
 use Rattle.cleanup_tasks.proofs.Under.{level_is, level_none, append_nil}
 use Rattle.cleanup_tasks.proofs.tasks.push_at.Goals as goal
 

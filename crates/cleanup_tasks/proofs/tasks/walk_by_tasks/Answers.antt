@@ -1,4 +1,4 @@
-use Rattle.std.proofs.Common.{◌≡◌, ℕ, List, slice_index, slice_index_or, sym, ◌∙◌, ap, subst, arith, length, Vec, Global}
+use Rattle.std.proofs.Common.{◌≡◌, List, slice_index, slice_index_or, sym, ap, subst, arith, length, Vec, Global}
 use Rattle.apsp_model.specs.declared.TheConstants.{MOST_VERTICES}
 use Rattle.cleanup_tasks.specs.declared.search.Level.{Level}
 use Rattle.cleanup_tasks.specs.Victims.{IsVictims}
