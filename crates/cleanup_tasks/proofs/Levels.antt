@@ -62,14 +62,14 @@ length-map f (x ∷ xs) = ap suc (length-map f xs)
 
 -- ---- rising hops
 
-rising_append : (b : Book) (xs ys : List ℕ) → IsRising b xs → IsRising b ys → ((x y : ℕ) → Contains xs x → Contains ys y → hops_at b x ≤ hops_at b y) → IsRising b (xs ++ ys)
+pub rising_append : (b : Book) (xs ys : List ℕ) → IsRising b xs → IsRising b ys → ((x y : ℕ) → Contains xs x → Contains ys y → hops_at b x ≤ hops_at b y) → IsRising b (xs ++ ys)
 rising_append b [] ys a c across = c
 rising_append b (x ∷ xs) ys a c across = (
   λ q k. elim (Contains-append_cases xs ys q k) [ inl left ↦ a.0 q left | inr right ↦ across x q (head_in x x xs refl) right ],
   rising_append b xs ys a.1 c (λ y z left right. across y z (tail_in y x xs left) right),
 )
 
-rising_alike : (b : Book) (xs : List ℕ) (h : ℕ) → ((x : ℕ) → Contains xs x → hops_at b x ≡ h) → IsRising b xs
+pub rising_alike : (b : Book) (xs : List ℕ) (h : ℕ) → ((x : ℕ) → Contains xs x → hops_at b x ≡ h) → IsRising b xs
 rising_alike b [] h alike = tt
 rising_alike b (x ∷ xs) h alike = (
   λ q c. (let e : hops_at b x ≡ h = alike x (head_in x x xs refl) in let f : hops_at b q ≡ h = alike q (tail_in q x xs c) in omega arith),
@@ -258,7 +258,7 @@ module _ (b : Book) (was : IsBook b) (v : ℕ) (inside : v < b.arena.vertices) w
   through_passes : (id : ℕ) → IsThrough b v id → Passes b v id
   through_passes id h = (live_from_edge b.arena id was.arena h.0, h.1)
 
-  pub walk_starts : (id : ℕ) (behind in_front ids : List ℕ) → id ≡ root → IsLonger b (id ∷ []) [] behind in_front → ids ≡ [] ++ (behind ++ in_front) → HasWalked b v behind in_front ids
+  unfoldable pub walk_starts : (id : ℕ) (behind in_front ids : List ℕ) → id ≡ root → IsLonger b (id ∷ []) [] behind in_front → ids ≡ [] ++ (behind ++ in_front) → HasWalked b v behind in_front ids
   walk_starts id behind in_front ids at longer are = record {
     done = [];
     hops = 1;

@@ -1,3 +1,4 @@
 pub mod Parents
 pub mod Levels
 pub mod Cleaning
+pub mod Under

@@ -1,2 +1,3 @@
 pub mod Victims
 pub mod Walk
+pub mod Under

@@ -9,6 +9,7 @@ ghost use Rattle.cleanup_tasks.specs.Victims.{IsVictims};
 ghost use Rattle.cleanup_tasks.specs.Walk.{lefts_of, rights_of, IsLonger};
 
 use crate::listed::Victims;
+use crate::tasks::{Crew, MANY_PATHS, walk_by};
 use apsp_io::{Gate, TASK};
 use apsp_model::Memory;
 use path_arena::PathId;
@@ -22,10 +23,11 @@ use std::thread::Threads;
 ///
 /// The parent of such a path is the path without its last vertex where it starts at v, and the path
 /// without its first vertex otherwise. So the walk from the single vertex to the children of each
-/// path comes to each once, level by level. It works in the caller's thread, and passes the gate
-/// for each edge at v.
+/// path comes to each once, level by level. Each such path lies under one edge at v, and the walk
+/// from an edge is one task, before which the gate is passed with `TASK`. The workers are used where
+/// the book keeps many paths. Otherwise the caller walks alone.
 pub fn victims<R: Threads + Sync, G: Gate>(
-    _rt: &R,
+    rt: &R,
     alloc: Global,
     book: &Book,
     v: u32,
@@ -38,7 +40,14 @@ pub fn victims<R: Threads + Sync, G: Gate>(
     ensures vertex { IfOk result (λ list. list.vertex ≡ v) }
     ensures all { IfOk result (λ list. IsVictims book.now v list.ids) }
 {
-    let ids = walk(alloc, book, v, gate)?;
+    let crew = Crew {
+        rt,
+        alloc,
+        workers,
+        gate,
+        many: MANY_PATHS,
+    };
+    let ids = walk_by(&crew, book, v)?;
     Ok(Victims::new(v, ids))
 }
 
@@ -46,20 +55,23 @@ pub fn victims<R: Threads + Sync, G: Gate>(
 /// goes on behind the first starts at v, and what goes on in front of any does not. So no path is
 /// looked at.
 #[derive(Drop)]
-struct Level {
-    starting: Vec<PathId>,
-    passing: Vec<PathId>,
+pub(crate) struct Level {
+    pub(crate) starting: Vec<PathId>,
+    pub(crate) passing: Vec<PathId>,
 }
 
 impl Level {
-    fn new(alloc: Global) -> Level {
+    pub(crate) fn new(alloc: Global) -> Level
+        ensures starting { result.starting.items ≡ [] }
+        ensures passing { result.passing.items ≡ [] }
+    {
         Level {
             starting: Vec::new(alloc),
             passing: Vec::new(alloc),
         }
     }
 
-    fn is_empty(&self) -> bool
+    pub(crate) fn is_empty(&self) -> bool
         ensures none { IsTrue result → (self.now.starting.items ≡ []) × (self.now.passing.items ≡ []) }
         ensures some { result ≡ false → 1 ≤ length self.now.starting.items + length self.now.passing.items }
     {
@@ -68,7 +80,12 @@ impl Level {
 }
 
 /// The kept paths through v that have an edge, level by level.
-fn walk<G: Gate>(alloc: Global, book: &Book, v: u32, gate: &G) -> Result<Vec<PathId>, Memory>
+pub(crate) fn walk<G: Gate>(
+    alloc: Global,
+    book: &Book,
+    v: u32,
+    gate: &G,
+) -> Result<Vec<PathId>, Memory>
     requires vertex { v < book.now.arena.vertices }
     ensures all { IfOk result (λ ids. IsVictims book.now v ids.items) }
 {
@@ -94,7 +111,7 @@ fn pass_tasks<G: Gate>(tasks: usize, gate: &G) {
 }
 
 /// Puts the paths of a level behind the ids.
-fn push_level(level: &Level, ids: &mut Vec<PathId>) -> Result<(), Memory>
+pub(crate) fn push_level(level: &Level, ids: &mut Vec<PathId>) -> Result<(), Memory>
     ensures { OnOk result (ids.new.items ≡ ids.old.items ++ (level.now.starting.items ++ level.now.passing.items)) }
 {
     ids.extend_from_slice(&level.starting).map_err(|_| Memory)?;
@@ -102,7 +119,7 @@ fn push_level(level: &Level, ids: &mut Vec<PathId>) -> Result<(), Memory>
 }
 
 /// Makes the next level of the children of paths that start at v and of others.
-fn longer(
+pub(crate) fn longer(
     book: &Book,
     starting: &[PathId],
     passing: &[PathId],

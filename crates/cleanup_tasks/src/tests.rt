@@ -1,9 +1,10 @@
 //! Tests of the cleanup by calls.
 
-ghost use Rattle.std.specs.Prelude.{◌≡◌, ◌≢◌, ◌<◌, IsTrue, IfOk, All, length, [], ◌∷◌};
+ghost use Rattle.std.specs.Prelude.{◌≡◌, ◌≢◌, ◌<◌, ◌≤◌, IsTrue, IfOk, All, length, [], ◌∷◌};
 ghost use Rattle.cleanup_tasks.specs.Victims.{IsVictims};
 ghost use Rattle.path_book.specs.Book.{IsBook, IsNewList};
 
+use crate::tasks::{Crew, walk_by};
 use crate::{Victims, forget_all, victims};
 use apsp_io::OpenGate;
 use path_arena::PathId;
@@ -127,5 +128,40 @@ fn paths_through_a_vertex_are_found(rt: HostRuntime) -> Result<(), Fail> {
 fn paths_through_a_vertex_are_forgotten(rt: HostRuntime) -> Result<(), Fail> {
     let (mut book, _, _) = two_ways(rt.alloc())?;
     assert_eq!(rt; left_without(&rt, rt.alloc(), &mut book, 1)?, 3);
+    Ok(())
+}
+
+/// The paths through 0, looked for by so many workers.
+fn by_workers<R: Threads + Sync>(
+    rt: &R,
+    alloc: Global,
+    book: &Book,
+    workers: u32,
+) -> Result<Vec<PathId>, Fail>
+    requires vertices { book.now.arena.vertices ≡ 5 }
+    requires some { 1 ≤ workers }
+    requires most { workers ≤ 64 }
+    ensures all { IfOk result (λ ids. IsVictims book.now 0 ids.items) }
+{
+    let crew = Crew {
+        rt,
+        alloc,
+        workers,
+        gate: &OpenGate,
+        many: 1,
+    };
+    let ids = walk_by(&crew, book, 0)?;
+    Ok(ids)
+}
+
+#[test]
+fn several_workers_find_the_same_paths(rt: HostRuntime) -> Result<(), Fail> {
+    let (book, [to_1, _, by_1], [to_2, _, by_2]) = two_ways(rt.alloc())?;
+    let alone = by_workers(&rt, rt.alloc(), &book, 1)?;
+    assert!(rt; are_edges_and_joins(&alone, [to_1, to_2], [by_1, by_2]));
+    let two = by_workers(&rt, rt.alloc(), &book, 2)?;
+    assert!(rt; are_edges_and_joins(&two, [to_1, to_2], [by_1, by_2]));
+    let seven = by_workers(&rt, rt.alloc(), &book, 7)?;
+    assert!(rt; are_edges_and_joins(&seven, [to_1, to_2], [by_1, by_2]));
     Ok(())
 }
