@@ -1,6 +1,5 @@
 -- Stars that are drawn edge by edge.
-use Rattle.std.specs.Prelude.{◌≡◌, ◌≢◌, ℕ, zero, suc, ◌+◌, ◌-◌, ◌<◌, ◌≤◌, ◌%◌, Bool, true, false, cond, ◌==◌, ◌&&◌, nat_lt, if◌then◌else◌, Option, Some, None, IfSome, refl}
-use Rattle.std.specs.Ordering.{eq_by_cmp}
+use Rattle.std.specs.Prelude.{◌≡◌, ◌≢◌, ℕ, zero, suc, ◌+◌, ◌-◌, ◌<◌, ◌%◌, Bool, true, false, cond, ◌==◌, ◌&&◌, nat_lt, if◌then◌else◌, Option, Some, None, refl}
 use Rattle.std.specs.FinMap as map
 use Rattle.std.proofs.Common.{sym, ◌∙◌, ap, subst, inl, inr, arith}
 use Rattle.std.proofs.lemmas.Bool.{cases_eq}
@@ -10,8 +9,6 @@ use Rattle.apsp_model.specs.Star.{Star}
 use Rattle.apsp_model.proofs.Stars.{pairs_total}
 use Rattle.graph_store.specs.Edges.{IsWeight, first_refusal, with_maybe_edge}
 use Rattle.graph_store.specs.Making.{no_star}
-use Rattle.graph_store.specs.Table.{map_of}
-use Rattle.graph_store.specs.declared.StarError.{StarError}
 use Rattle.graph_store.proofs.Graphs.{same_star}
 use Rattle.graph_store.proofs.Tables.{same_pair, get-map_of}
 use Rattle.load_run.specs.Draws.{draw, drawn, drawn_weight, others_below, drawn_edge, drawn_star, draws_of_star}

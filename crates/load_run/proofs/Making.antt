@@ -2,7 +2,7 @@
 use Rattle.std.specs.Prelude.{◌≡◌, ℕ, suc, ◌+◌, ◌*◌, ◌%◌, false, List, [], ◌∷◌, ◌++◌, length, refl}
 use Rattle.std.proofs.Common.{sym, ◌∙◌, ap, subst, arith, length-append}
 use Rattle.apsp_model.specs.Star.{Star}
-use Rattle.apsp_model.specs.Command.{Command, Update, graph_of}
+use Rattle.apsp_model.specs.Command.{Update, graph_of}
 use Rattle.apsp_model.specs.Counts.{CountsAre}
 use Rattle.apsp_model.specs.Stated.{Stated}
 use Rattle.history_engine.specs.Seen.{Seen}

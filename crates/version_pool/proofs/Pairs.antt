@@ -1,8 +1,8 @@
 -- What a graph of two vertices answers, by which the tests fill versions.
-use Rattle.std.specs.Prelude.{◌≡◌, ◌≢◌, ℕ, ◌+◌, ◌<◌, ◌≤◌, List, [], ◌∷◌, length, Some, None, IsSome, unwrap_or, false, true, refl}
+use Rattle.std.specs.Prelude.{◌≡◌, ◌≢◌, ℕ, ◌<◌, ◌≤◌, List, [], ◌∷◌, length, Some, None, IsSome, unwrap_or, false, true, refl}
 use Rattle.std.proofs.Common.{sym, ◌∙◌, ap, subst, arith}
 use Rattle.apsp_model.specs.Graph.{Graph, HasEdge, edge_weight, weight_at}
-use Rattle.apsp_model.specs.Walk.{IsWalk, IsWalkFrom, first, last}
+use Rattle.apsp_model.specs.Walk.{IsWalkFrom}
 use Rattle.apsp_model.specs.Least.{IsLeast, HasNoWalk}
 use Rattle.apsp_model.proofs.Exists.{least_exists}
 use Rattle.apsp_model.proofs.Leasts.{least_is_simple, least_of_vertex}

@@ -1,4 +1,4 @@
-use Rattle.std.proofs.Common.{◌≡◌, ℕ, suc, ◌+◌, refl, subst, ◌∙◌, arith}
+use Rattle.std.proofs.Common.{◌≡◌, suc, ◌+◌, refl, subst, arith}
 use Rattle.load_run.specs.Rows.{TableDistancesAre}
 use Rattle.load_run.proofs.Summing.{table_none, table_more, table_whole}
 use Rattle.load_run.proofs.distances.count_distances.Goals as goal

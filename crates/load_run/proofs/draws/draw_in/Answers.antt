@@ -1,4 +1,4 @@
-use Rattle.std.proofs.Common.{◌≡◌, ℕ, suc, ◌+◌, subst, sym, ap, ◌∙◌, refl, arith}
+use Rattle.std.proofs.Common.{◌≡◌, suc, ◌+◌, subst, sym, ap, ◌∙◌, arith}
 use Rattle.graph_store.specs.Edges.{with_maybe_edge}
 use Rattle.load_run.specs.Stars.{HasBoth}
 use Rattle.load_run.proofs.Drawing.{both_start, both_step, both_skip, none_yet}

@@ -1,4 +1,4 @@
-use Rattle.std.proofs.Common.{◌≡◌, ℕ, suc, ◌+◌, subst, sym, ap, ◌∙◌, refl, arith}
+use Rattle.std.proofs.Common.{◌≡◌, suc, ◌+◌, subst, sym, ap, ◌∙◌, arith}
 use Rattle.graph_store.specs.Edges.{with_maybe_edge}
 use Rattle.load_run.specs.Stars.{HasOut}
 use Rattle.load_run.proofs.Drawing.{out_start, out_step, out_skip}

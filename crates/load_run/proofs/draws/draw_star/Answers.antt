@@ -1,7 +1,5 @@
-use Rattle.std.proofs.Common.{◌≡◌, ℕ, ◌<◌, ◌%◌, subst, sym, ap, ◌∙◌, arith}
+use Rattle.std.proofs.Common.{ℕ, ◌<◌, ◌%◌, ap, arith}
 use Rattle.apsp_model.specs.Star.{Star}
-use Rattle.load_run.specs.Draws.{drawn}
-use Rattle.load_run.specs.Stars.{HasBoth}
 use Rattle.load_run.proofs.Drawing.{both_whole, out_again, star_drawn, place_drawn}
 use Rattle.load_run.proofs.draws.draw_star.Goals as goal
 

@@ -1,6 +1,5 @@
-use Rattle.std.proofs.Common.{◌≡◌, ℕ, suc, ◌+◌, ◌*◌, Bool, true, false, refl, sym, ap, subst, ◌∙◌, arith}
+use Rattle.std.proofs.Common.{◌≡◌, suc, ◌+◌, ◌*◌, refl, sym, ap, subst, ◌∙◌, arith}
 use Rattle.apsp_model.specs.Star.{Star}
-use Rattle.apsp_model.specs.Command.{Update}
 use Rattle.history_engine.specs.Advance.{Stands}
 use Rattle.load_run.specs.Draws.{drawn, drawn_star, draws_of_star, drawn_updates}
 use Rattle.load_run.proofs.Making.{HasMade, made_none, made_more}

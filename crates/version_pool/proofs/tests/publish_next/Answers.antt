@@ -1,4 +1,4 @@
-use Rattle.std.proofs.Common.{◌≡◌, ◌∙◌}
+use Rattle.std.proofs.Common.{◌∙◌}
 use Rattle.version_pool.proofs.Versions.{vertices_of}
 use Rattle.version_pool.proofs.tests.publish_next.Goals as goal
 

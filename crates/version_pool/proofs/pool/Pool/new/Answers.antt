@@ -1,4 +1,4 @@
-use Rattle.std.proofs.Common.{rules, ◌≡◌, sym, ◌∙◌, ap}
+use Rattle.std.proofs.Common.{rules, sym, ◌∙◌, ap}
 use Rattle.version_face.specs.Seen.{Seen}
 use Rattle.version_pool.proofs.Versions.{vertices_of}
 use Rattle.version_pool.proofs.pool.Pool.new.Goals as goal

@@ -1,6 +1,5 @@
-use Rattle.std.proofs.Common.{◌≡◌, ℕ, Some, sym, ◌∙◌, ap}
-use Rattle.version_face.specs.Seen.{Seen}
-use Rattle.version_pool.specs.Pooled.{Publisher, IsPublisherOf, spare_vertices}
+use Rattle.std.proofs.Common.{ℕ, sym, ◌∙◌, ap}
+use Rattle.version_pool.specs.Pooled.{Publisher, spare_vertices}
 use Rattle.version_pool.proofs.Versions.{vertices_of}
 use Rattle.version_pool.proofs.publisher.Publisher.publish.Goals as goal
 

@@ -1,4 +1,4 @@
-use Rattle.std.proofs.Common.{◌≡◌, ◌<◌, sym, ◌∙◌, arith}
+use Rattle.std.proofs.Common.{◌<◌, sym, ◌∙◌, arith}
 use Rattle.graph_store.specs.Plan.{hi_of}
 use Rattle.version_pool.proofs.Versions.{vertices_of, star_fits, next_version}
 use Rattle.version_pool.proofs.tests.Pair.advance.Goals as goal
