@@ -36,6 +36,8 @@ HERE = os.path.dirname(os.path.abspath(__file__))
 TOP = os.path.dirname(HERE)
 PROGRAM = os.path.join(TOP, "crates", "apsp", "out", "apsp")
 SECONDS = 120
+# Examples whose answers leave a choice: a referee judges them.
+JUDGED = ("closures",)
 
 
 def read(folder, name, default=b""):
@@ -99,7 +101,7 @@ def cases():
     folder = os.path.join(TOP, "examples")
     for file in sorted(os.listdir(folder)):
         name, ending = os.path.splitext(file)
-        if ending == ".txt":
+        if ending == ".txt" and name not in JUDGED:
             yield ("examples/" + name, read(folder, name + ".words").decode().split(), read(folder, file),
                    read(folder, name + ".out"), int(read(folder, name + ".status", b"0")), [])
 
@@ -136,6 +138,13 @@ def check_blocks():
     """Whether what random scripts with blocks are answered is allowed, and the referee refuses what is not."""
     yield from blocks.faults(PROGRAM, 40)
     yield from blocks.wrongly_judged()
+    for name in JUDGED:
+        text = read(os.path.join(TOP, "examples"), name + ".txt")
+        words = read(os.path.join(TOP, "examples"), name + ".words").decode().split()
+        output, status = run(words, text, [])
+        fault = blocks.judge(text, output, status, int(words[words.index("--readers") + 1]), lambda data: [])
+        if fault:
+            yield f"examples/{name}: {fault.decode()}"
 
 
 def check_workers():
