@@ -138,18 +138,24 @@ def the_reading_list_is_that_of_the_sources(_program):
 
 
 def wrong_lines():
-    """The rows of FORMATS that have a wrong line: the code, the script, the line, its reply and what is expected there."""
+    """The rows of FORMATS that have a wrong line: the code, the mode, the script, the line, its reply and what is expected."""
     row = re.compile(r"^\| (\d+) \| (.*) \| `(line .*)` \| (.*) \|$", re.M)
-    for code, line, reply, expected in row.findall(text_of("docs", "FORMATS.md")):
-        line = "x" * 65537 if code == "10" else line.strip("`")
-        yield int(code), ("" if code == "1" else "vertices 3\n") + line + "\n", line, reply, expected
+    many = re.compile(r"`(.*)` behind ([\d,]+) lines `(.*)`")
+    for number, text, reply, expected in row.findall(text_of("docs", "FORMATS.md")):
+        code, before, line = int(number), "", "x" * 65537 if number == "10" else text.strip("`")
+        if many.fullmatch(text):
+            line, count, other = many.fullmatch(text).groups()
+            before = (other + "\n") * int(count.replace(",", ""))
+        opening = ("" if code == 1 else "vertices 3\n") + ("block\n" if code > 11 else "")
+        end = "end\n" if code > 11 else ""
+        yield code, "live" if code > 11 else "run", opening + before + line + "\n" + end, line, reply, expected
 
 
 def each_code_has_its_wrong_line(program):
     codes = []
-    for code, script, line, reply, _ in wrong_lines():
+    for code, mode, script, line, reply, _ in wrong_lines():
         codes.append(code)
-        done = run([program], input=script)
+        done = run([program, mode], input=script)
         same((done.returncode, done.stdout), (1, reply + "\n"), line[:80])
     same(codes, list(range(1, 1 + len(codes))), "the codes of docs/FORMATS.md")
     assert codes, "no wrong line is read from docs/FORMATS.md"
@@ -157,10 +163,11 @@ def each_code_has_its_wrong_line(program):
 
 def explain_says_what_is_expected(program):
     with Checkout(program) as here:
-        for _, script, line, reply, expected in wrong_lines():
+        for _, mode, script, line, reply, expected in wrong_lines():
             with open(os.path.join(here.top, "wrong.txt"), "w", encoding="ascii") as file:
                 file.write(script)
-            done = here.apsp("explain", "wrong.txt", cwd=here.top)
+            words = ["explain", "wrong.txt"] + (["live"] if mode == "live" else [])
+            done = here.apsp(*words, cwd=here.top)
             told = done.stdout.splitlines()
             form = {"dist 0": "dist X Y, 3 words"}.get(line, expected)
             same((done.returncode, done.stderr, len(told)), (1, "", 4), line[:80])
