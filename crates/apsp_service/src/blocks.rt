@@ -1,6 +1,6 @@
 //! Who runs blocks.
 
-ghost use Rattle.std.specs.Prelude.{◌≡◌, ℕ, ⊤, Option, Some, None, IsSome};
+ghost use Rattle.std.specs.Prelude.{◌≡◌, ℕ, ⊤, Option, Some, None};
 ghost use Rattle.std.specs.Option.{ForSome};
 ghost use Rattle.block_run.specs.Run.{CanRun, HasRun};
 
@@ -21,14 +21,14 @@ pub trait Blocks {
     fn readers(&self) -> Option<u32>
         ensures { result ≡ readers self.now };
 
-    /// Runs a block: the engine takes its updates, and its questions are answered meanwhile.
+    /// Runs a block: the engine takes its updates, and its questions are answered meanwhile. Nothing
+    /// is promised where there are no blocks.
     fn run_block(
         &self,
         engine: &mut Engine,
         plan: &Plan,
         asks: &Asks,
     ) -> Result<BlockAnswers, Memory>
-        requires live { IsSome (readers self.now) }
         requires ready { ready self.now }
         requires can { CanRun engine.old plan.now asks.now }
         ensures { ForSome (readers self.now) (λ r. HasRun r engine.old plan.now asks.now result engine.new) };
@@ -53,7 +53,7 @@ impl Blocks for NoBlocks {
         _plan: &Plan,
         _asks: &Asks,
     ) -> Result<BlockAnswers, Memory> {
-        unreachable!()
+        Err(Memory)
     }
 }
 

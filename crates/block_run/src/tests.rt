@@ -1,11 +1,11 @@
 //! Blocks over a network of three vertices.
 
-ghost use Rattle.std.specs.Prelude.{◌≡◌, ◌<◌, ◌≤◌, All, IfOk};
+ghost use Rattle.std.specs.Prelude.{◌≡◌, ◌<◌, ◌≤◌, All, IfOk, length};
 ghost use Rattle.block_run.specs.declared.asks.Ask.{Ask as Question};
 
 use super::*;
 use apsp_io::{Gate, HELD, OpenGate, PUBLISHED, PairGate};
-use graph_store::{Plan, Star};
+use graph_store::{Graph, Plan, Star};
 use history_engine::Engine;
 use std::alloc::Global;
 use std::marker::Sync;
@@ -24,7 +24,7 @@ fn asks_of(alloc: Global, wanted: &[(u32, u32, u32)]) -> Result<Asks, Fail>
     ensures { IfOk result (λ asks. All (λ (a : Question). (a.x < 3) × (a.y < 3) × (a.since ≤ 2)) asks) }
 {
     let mut asks = Asks::new(alloc);
-    for &(x, y, since) in wanted {
+    'wanted: for &(x, y, since) in wanted {
         if x < 3 && y < 3 && since <= 2 {
             asks.push(x, y, since)?;
         }
@@ -32,8 +32,40 @@ fn asks_of(alloc: Global, wanted: &[(u32, u32, u32)]) -> Result<Asks, Fail>
     Ok(asks)
 }
 
-/// Runs a block with two updates behind a network without edges: an edge from 0 to 2, and then a
-/// lighter way by 1.
+/// The star of 0 with edges to 1 and 2.
+fn first_star(alloc: Global) -> Result<Star, Fail>
+    ensures { IfOk result (λ s. s.vertices ≡ 3) }
+{
+    let mut star = Star::new(alloc, 3, 0)?;
+    star.set_out(1, 4)?;
+    star.set_out(2, 9)?;
+    Ok(star)
+}
+
+/// The star of 1 with an edge from 0 and one to 2.
+fn second_star(alloc: Global) -> Result<Star, Fail>
+    ensures { IfOk result (λ s. s.vertices ≡ 3) }
+{
+    let mut star = Star::new(alloc, 3, 1)?;
+    star.set_out(2, 3)?;
+    star.set_in(0, 4)?;
+    Ok(star)
+}
+
+/// A plan of two updates: an edge from 0 to 2, and then a lighter way by 1.
+fn plan_of_two(alloc: Global, start: &Graph) -> Result<Plan, Fail>
+    requires three { start.now.vertices ≡ 3 }
+    ensures start { IfOk result (λ p. p.start ≡ start.now) }
+    ensures lo { IfOk result (λ p. p.lo ≡ 0) }
+    ensures stars { IfOk result (λ p. length p.stars ≡ 2) }
+{
+    let mut plan = Plan::new(alloc, start, 0)?;
+    plan.add(first_star(alloc)?)?;
+    plan.add(second_star(alloc)?)?;
+    Ok(plan)
+}
+
+/// Runs a block with two updates behind a network without edges.
 fn run_two<R: Threads + Wait + Sync, G: Gate>(
     rt: &R,
     alloc: Global,
@@ -45,15 +77,7 @@ fn run_two<R: Threads + Wait + Sync, G: Gate>(
     requires readers { (1 ≤ readers) × (readers ≤ 32) }
 {
     let mut engine = Engine::new(alloc, 3, false)?;
-    let mut plan = Plan::new(alloc, engine.graph(), 0)?;
-    let mut star = Star::new(alloc, 3, 0)?;
-    star.set_out(1, 4)?;
-    star.set_out(2, 9)?;
-    plan.add(star)?;
-    let mut star = Star::new(alloc, 3, 1)?;
-    star.set_out(2, 3)?;
-    star.set_in(0, 4)?;
-    plan.add(star)?;
+    let plan = plan_of_two(alloc, engine.graph())?;
     let answers = live_block(rt, alloc, &mut engine, &plan, asks, readers, 4, 2, gate)?;
     Ok(answers)
 }
