@@ -1,4 +1,4 @@
--- A loop over `write`: what a writer took so far of a piece.
+-- A loop over `write`, and what a writer took so far of a piece: for `write_out`.
 use Rattle.std.proofs.Common.{◌≡◌, ℕ, List, [], ◌∷◌, ◌++◌, length, take, drop, refl, sym, ap, subst, ◌∙◌, arith, rules, length-append, append_assoc}
 use Rattle.std.proofs.lemmas.List.{take-append-drop}
 use Rattle.std.proofs.Math.Seq.{take-append_seam}
@@ -31,6 +31,7 @@ Appends-kept (Some os) (Some ms) (Some ns) xs h k = k ∙ h
 pub took_none : (old : Option (List ℕ)) (piece : List ℕ) → TookFront old old piece piece
 took_none old piece = record { front = []; whole = refl; taken = Appends-none old }
 
+-- after one more write a longer front of the piece was taken
 pub took_more : (old mid new : Option (List ℕ)) (piece rest after : List ℕ) (n : ℕ) → TookFront old mid piece rest → Appends mid new (take n rest) → after ≡ drop n rest → TookFront old new piece after
 took_more old mid new piece rest after n t a e = record {
   front = t.front ++ take n rest;

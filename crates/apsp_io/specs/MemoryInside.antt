@@ -1,4 +1,4 @@
--- What holds of the fields of a source in memory.
+-- What holds of the fields of a source in memory. No public clause cites this module.
 use Rattle.std.specs.Prelude.{◌≤◌, vec_len}
 use Rattle.apsp_io.specs.declared.memory.MemorySource.TheInside.{Inside}
 

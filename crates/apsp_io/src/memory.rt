@@ -28,7 +28,13 @@ impl Model for MemorySource {
 
     ghost use Rattle.apsp_io.specs.MemoryInside.{IsLawfulSource};
 
-    ghost view = { λ s. record { left = drop s.place s.bytes.items; piece = s.piece; failing = s.failing.items; calls = s.calls; faults = s.faults } };
+    ghost view = { λ s. record {
+      left = drop s.place s.bytes.items;
+      piece = s.piece;
+      failing = s.failing.items;
+      calls = s.calls;
+      faults = s.faults;
+    } };
 
     ghost invariant = { IsLawfulSource };
 }
@@ -164,7 +170,11 @@ impl Sink for MemorySink {
 
         ensures gives { OnOk result (cutoff_at self.old.failing (self.old.calls + 1) ≡ None) }
         ensures fails { IsErrOf result GiveError.Failed → IsSomeAnd (cutoff_at self.old.failing (self.old.calls + 1))
-            (λ cutoff. self.new ≡ record self.old { held = self.old.held ++ take cutoff.kept piece.now; calls = next_count self.old.calls; faults = self.old.faults + 1 }) }
+            (λ cutoff. self.new ≡ record self.old {
+              held = self.old.held ++ take cutoff.kept piece.now;
+              calls = next_count self.old.calls;
+              faults = self.old.faults + 1;
+            }) }
         ensures ok { OnOk result
             (self.new ≡ record self.old { held = self.old.held ++ piece.now; calls = next_count self.old.calls }) }
         ensures nothing { IsErrOf result GiveError.Memory

@@ -1,4 +1,5 @@
 pub mod Graph
+pub mod Limits
 pub mod Walk
 pub mod Order
 pub mod Part

@@ -12,7 +12,8 @@ use Rattle.apsp_model.specs.Paths.{KeptPath, IsKeptIn, IsHistoricalIn, HasBirthI
 
 -- exactly the kept paths that avoid v and the single vertices are left, each with its weight, mark and birth
 abbrev pub IsCleaned : ℕ → List KeptPath → List KeptPath → Type 0
-IsCleaned v before after = (k : KeptPath) → Contains after k ↔ (Contains before k × (Avoids k.list v ⊎ (length k.list ≡ 1)))
+IsCleaned v before after =
+    (k : KeptPath) → Contains after k ↔ (Contains before k × (Avoids k.list v ⊎ (length k.list ≡ 1)))
 
 -- the graph without its edges at v
 abbrev pub without_star : Graph → ℕ → Graph
@@ -38,6 +39,7 @@ pub record IsSettled (g : Graph) (birth : ℕ) (before after : List KeptPath) (f
   pub historical : (p : List ℕ) → IsHistoricalIn after p ↔ (IsHistoricalIn before p ⊎ IsLeastWalk g p)
   pub kept : (p : List ℕ) → IsKeptIn after p ↔ IsLocal g (IsHistoricalIn after) p
   pub weights : HaveWeights g after
-  pub births : (p : List ℕ) (b : ℕ) → HasBirthIn after p b ↔ (HasBirthIn before p b ⊎ (IsKeptIn after p × (IsKeptIn before p → ⊥) × (b ≡ birth)))
+  pub births : (p : List ℕ) (b : ℕ) → HasBirthIn after p b
+      ↔ (HasBirthIn before p b ⊎ (IsKeptIn after p × (IsKeptIn before p → ⊥) × (b ≡ birth)))
   pub formed_is : CountIs (λ p. IsKeptIn after p × (IsKeptIn before p → ⊥)) formed
   pub promoted_is : CountIs (λ p. IsHistoricalIn after p × (IsHistoricalIn before p → ⊥)) promoted

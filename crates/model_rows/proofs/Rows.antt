@@ -10,10 +10,10 @@ use Rattle.apsp_model.specs.Local.{IsVertex}
 use Rattle.apsp_model.specs.Kept.{Moment, IsWithEdge, opening, after_star, after_steps, moment_of, IsKept, IsHistorical, HasBirth}
 use Rattle.apsp_model.specs.Counts.{CountIs, RemovedIs, TurnoverIs, LatestTurnoverIs, CountsAre, Counts, PathsAre}
 use Rattle.apsp_model.proofs.Stars.{weight-star_of, pairs_total}
-use Rattle.fixup_math.proofs.Counting.{count_none}
+use Rattle.apsp_model.proofs.Counting.{count_none}
 use Rattle.model_rows.specs.Networks.{Row, star_from, updates}
-use Rattle.model_rows.proofs.Deciding.{Known, Weights, Made, steps_from, contains_test, historical_test, kept_test, birth_by, contains_test_is}
-use Rattle.model_rows.proofs.Finding.{after, historical_test_is, kept_test_is, birth_is, found, found_is, count_found, once_test}
+use Rattle.apsp_model.proofs.Deciding.{Known, Weights, Made, steps_from, contains_test, historical_test, kept_test, birth_by, contains_test_is}
+use Rattle.apsp_model.proofs.Finding.{after, historical_test_is, kept_test_is, birth_is, found, found_is, count_found, once_test}
 
 abbrev pub weights_from : List Row → Weights
 weights_from [] a b = None

@@ -30,7 +30,8 @@ diamond = (3, ((1, 3), 2) ∷ ((2, 3), 1) ∷ []) ∷ (0, ((0, 1), 1) ∷ ((0, 2
 
 -- .. and then an edge of their weight
 abbrev pub shortcut : List Row
-shortcut = (0, ((0, 1), 1) ∷ ((0, 2), 2) ∷ ((0, 3), 3) ∷ []) ∷ (3, ((1, 3), 2) ∷ ((2, 3), 1) ∷ []) ∷ (0, ((0, 1), 1) ∷ ((0, 2), 2) ∷ []) ∷ []
+shortcut = (0, ((0, 1), 1) ∷ ((0, 2), 2) ∷ ((0, 3), 3) ∷ []) ∷ (3, ((1, 3), 2) ∷ ((2, 3), 1) ∷ [])
+    ∷ (0, ((0, 1), 1) ∷ ((0, 2), 2) ∷ []) ∷ []
 
 -- both halves of the path 0 1 2 become least at once
 abbrev pub halves : List Row

@@ -11,7 +11,8 @@ ghost use Rattle.apsp_model.specs.Least.{HasNoWalk, IsLeast};
 ghost use Rattle.apsp_model.specs.Walk.{weight_of};
 ghost use Rattle.model_rows.specs.Networks.{updates, two_stars, way_closed, diamond, shortcut, halves, there_and_back, one_edge, heaviest};
 
-/// The edge 0 2 of weight 9 was least once. It stays historical when the way 0 1 2 of weight 7 appears, with its birth, and the way is kept.
+/// The edge 0 2 of weight 9 was least once. It stays historical when the way 0 1 2 of weight 7 appears, with its birth,
+/// and the way is kept.
 pub fn what_was_least_stays_historical()
     ensures least { IsLeast (graph_of 3 (updates 3 two_stars)) 0 2 (0 ∷ 1 ∷ 2 ∷ []) }
     ensures weight { weight_of (graph_of 3 (updates 3 two_stars)) (0 ∷ 1 ∷ 2 ∷ []) ≡ 7 }
@@ -24,7 +25,8 @@ pub fn what_was_least_stays_historical()
         (record { updates = 2; steps = 2; paths = 4; historical = 4; formed = 3; removed = 1 }) }
 {}
 
-/// With smoothing the step at vertex 0 is made again, as step 3: the edge 0 2 is formed anew and is historical no longer.
+/// With smoothing the step at vertex 0 is made again, as step 3: the edge 0 2 is formed anew and is historical no
+/// longer.
 pub fn cleaning_drops_what_is_not_least()
     ensures dropped { ¬ IsHistorical 3 true (updates 3 two_stars) (0 ∷ 2 ∷ []) }
     ensures birth { HasBirth 3 true (updates 3 two_stars) (0 ∷ 2 ∷ []) 3 }
@@ -41,7 +43,8 @@ pub fn a_path_that_no_step_touches_keeps_its_birth()
         (record { updates = 3; steps = 3; paths = 1; historical = 1; formed = 0; removed = 3 }) }
 {}
 
-/// Two ways from 0 to 3 have one weight and length: both are kept, and the lexicographically first one is least and alone historical.
+/// Two ways from 0 to 3 have one weight and length: both are kept, and the lexicographically first one is least and
+/// alone historical.
 pub fn of_two_ways_the_first_list_is_least()
     ensures least { IsLeast (graph_of 4 (updates 4 diamond)) 0 3 (0 ∷ 1 ∷ 3 ∷ []) }
     ensures weight { weight_of (graph_of 4 (updates 4 diamond)) (0 ∷ 1 ∷ 3 ∷ []) ≡ 3 }
@@ -79,14 +82,16 @@ pub fn there_and_back_is_never_kept()
         (record { updates = 1; steps = 1; paths = 2; historical = 2; formed = 2; removed = 0 }) }
 {}
 
-/// The second update has no cleaning step, because time 1 is not the latest update of vertex 0; the third has one, for time 2.
+/// The second update has no cleaning step, because time 1 is not the latest update of vertex 0; the third has one, for
+/// time 2.
 pub fn only_latest_updates_are_cleaned()
     ensures birth { HasBirth 2 true (updates 2 one_edge) (0 ∷ 1 ∷ []) 4 }
     ensures counts { CountsAre 2 true (updates 2 one_edge)
         (record { updates = 3; steps = 4; paths = 1; historical = 1; formed = 2; removed = 2 }) }
 {}
 
-/// Two edges of the greatest weight make a walk of twice that weight; a vertex reaches itself with weight 0, and nothing against the edges.
+/// Two edges of the greatest weight make a walk of twice that weight; a vertex reaches itself with weight 0, and
+/// nothing against the edges.
 pub fn the_greatest_weights_add_up()
     ensures least { IsLeast (graph_of 3 (updates 3 heaviest)) 0 2 (0 ∷ 1 ∷ 2 ∷ []) }
     ensures weight { weight_of (graph_of 3 (updates 3 heaviest)) (0 ∷ 1 ∷ 2 ∷ []) ≡ 8589934590 }

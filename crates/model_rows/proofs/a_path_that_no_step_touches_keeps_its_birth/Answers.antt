@@ -1,6 +1,6 @@
 use Rattle.std.specs.Prelude.{false, [], ◌∷◌, refl}
 use Rattle.model_rows.specs.Networks.{way_closed}
-use Rattle.model_rows.proofs.Deciding.{least_from, weight_by_is}
+use Rattle.apsp_model.proofs.Deciding.{least_from, weight_by_is}
 use Rattle.model_rows.proofs.Rows.{known_from, counts_are, births_are}
 use Rattle.model_rows.proofs.a_path_that_no_step_touches_keeps_its_birth.Goals as goal
 

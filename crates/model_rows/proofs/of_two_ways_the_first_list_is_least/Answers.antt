@@ -2,7 +2,7 @@ use Rattle.std.specs.Prelude.{false, [], ◌∷◌, refl}
 use Rattle.std.proofs.Common.{sym}
 use Rattle.std.proofs.lemmas.Bool.{true≢false}
 use Rattle.model_rows.specs.Networks.{diamond}
-use Rattle.model_rows.proofs.Deciding.{least_from, weight_by_is}
+use Rattle.apsp_model.proofs.Deciding.{least_from, weight_by_is}
 use Rattle.model_rows.proofs.Rows.{known_from, counts_are, historical_are, kept_are}
 use Rattle.model_rows.proofs.of_two_ways_the_first_list_is_least.Goals as goal
 

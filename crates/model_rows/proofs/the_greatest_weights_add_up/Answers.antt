@@ -1,6 +1,6 @@
 use Rattle.std.specs.Prelude.{[], ◌∷◌, refl}
 use Rattle.model_rows.specs.Networks.{heaviest}
-use Rattle.model_rows.proofs.Deciding.{least_from, no_walk_from, weight_by_is}
+use Rattle.apsp_model.proofs.Deciding.{least_from, no_walk_from, weight_by_is}
 use Rattle.model_rows.proofs.Rows.{known_from}
 use Rattle.model_rows.proofs.the_greatest_weights_add_up.Goals as goal
 
