@@ -1,4 +1,4 @@
--- Bytes that are cut at the first of a kind.
+-- Bytes that are cut at the first of a kind: for `cut`, and for the lines of `Spellings`.
 use Rattle.std.specs.Prelude.{◌≡◌, ℕ, zero, suc, ◌+◌, ◌<◌, Bool, true, false, not, ◌==◌, ◌&&◌, cond, if◌then◌else◌, List, [], ◌∷◌, ◌++◌, length, take, drop, slice_index, Option, Some, None, refl}
 use Rattle.std.specs.List.{list_all}
 use Rattle.std.specs.Str.Parse.{AllDigits}
@@ -14,6 +14,7 @@ avoids c s = list_all (λ b. not (b == c)) s
 
 -- ---- a cut and its parts
 
+-- s is front and rest with the byte c between them, and front has no such byte
 pub record IsCutAt (c : ℕ) (s front rest : List ℕ) : Type 0 where
   pub whole : s ≡ front ++ c ∷ rest
   pub clean : avoids c front ≡ true
@@ -26,6 +27,7 @@ same_parts a r x y e =
     let pairs : ◌≡◌ {A = List ℕ × List ℕ} (a, r) (x, y) = same_pair (a, r) (x, y) e in
     (ap (λ (p : List ℕ × List ℕ). p.0) pairs, ap (λ (p : List ℕ × List ℕ). p.1) pairs)
 
+-- the parts of a cut
 pub cut_parts : (c : ℕ) (s front rest : List ℕ) → cut c s ≡ Some (front, rest) → IsCutAt c s front rest
 unfolding cut
 cut_parts c [] front rest e = cc
@@ -51,6 +53,7 @@ cut_parts c (b ∷ bs) front rest e = at (b == c) refl (λ f r h. cut_parts c bs
         subst (λ f. IsCutAt c (b ∷ bs) f rest) parts.0 (subst (λ r. IsCutAt c (b ∷ bs) [] r) parts.1 (here t))
     at false t again e = moved (cut c bs) refl t again e
 
+-- a text made of such parts is cut into them
 pub cut_again : (c : ℕ) (front rest : List ℕ) → avoids c front ≡ true → cut c (front ++ c ∷ rest) ≡ Some (front, rest)
 unfolding cut
 cut_again c [] rest h = ap (λ t. if t then Some ([], rest) else onto_front c (cut c rest)) (eq-eqb c c refl)
@@ -62,6 +65,7 @@ cut_again c (b ∷ bs) rest h = at (b == c) (cut_again c bs rest) h
 
 -- ---- what avoids a byte
 
+-- two texts without a byte, one behind the other, are without it
 pub avoids-append : (c : ℕ) (a b : List ℕ) → avoids c a ≡ true → avoids c b ≡ true → avoids c (a ++ b) ≡ true
 avoids-append c [] b h k = k
 avoids-append c (x ∷ a) b h k = at (not (x == c)) (λ e. avoids-append c a b e k) h
@@ -70,6 +74,7 @@ avoids-append c (x ∷ a) b h k = at (not (x == c)) (λ e. avoids-append c a b e
     at true again e = again e
     at false again e = cc
 
+-- digits have no byte below that of 0
 pub digits_avoid : (c : ℕ) (w : List ℕ) → c < 48 → AllDigits 10 w → avoids c w ≡ true
 digits_avoid c [] low d = refl
 digits_avoid c (b ∷ bs) low d =
@@ -85,6 +90,7 @@ one_more k = omega arith
 next_is : (k : ℕ) → suc k ≡ k + 1
 next_is k = omega arith
 
+-- a search that found the byte at k: the text is cut there
 pub cut_at : (c : ℕ) (s : List ℕ) (k : ℕ) → k < length s → ((j : ℕ) → j < k → (slice_index s j == c) ≡ true → ⊥) → (slice_index s k == c) ≡ true → cut c s ≡ Some (take k s, drop (k + 1) s)
 unfolding cut
 cut_at c [] k l before here = absurd (omega arith)
@@ -95,6 +101,7 @@ cut_at c (b ∷ bs) (suc k) l before here = at (b == c) refl (cut_at c bs k (ome
     at true t again = absurd (before zero (omega arith) t)
     at false t again = ap (onto_front b) again ∙ ap (λ n. Some (b ∷ take k bs, drop n (b ∷ bs))) (one_more k)
 
+-- a search to the end that found none: the text is not cut
 pub cut_nowhere : (c : ℕ) (s : List ℕ) → ((j : ℕ) → j < length s → (slice_index s j == c) ≡ true → ⊥) → cut c s ≡ None
 unfolding cut
 cut_nowhere c [] nowhere = refl

@@ -1,4 +1,4 @@
--- The value of digits, as far as they are read.
+-- The value of digits, as far as they are read: for `number_of` and its loop `value_of`; what is spelled and read again, for `Spellings`.
 use Rattle.std.specs.Prelude.{◌≡◌, ℕ, zero, suc, ◌+◌, ◌-◌, ◌*◌, ◌^◌, ◌<◌, ◌≤◌, ◌&&◌, ◌||◌, ◌==◌, not, Some, None, nat_le, Bool, true, false, cond, List, [], ◌∷◌, length, take, slice_index, refl}
 use Rattle.std.specs.Char.{digit_value}
 use Rattle.std.specs.Fmt.{decimal}
@@ -15,11 +15,13 @@ use Rattle.std.proofs.lemmas.List.{length-take}
 use Rattle.certificate.specs.declared.TheConstants.{MOST_DIGITS}
 use Rattle.certificate.specs.Numbers.{is_digit, is_number, AreFewDigits, number_of}
 
+-- b is the byte of a digit, with this value
 pub record IsDigit (b : ℕ) : Type 0 where
   pub low : 48 ≤ b
   pub high : b ≤ 57
   pub value : digit_value b ≡ b - 48
 
+-- a byte whose value as a digit is below 10 is that of a digit
 pub digit_from_value : (b : ℕ) → digit_value b < 10 → IsDigit b
 digit_from_value b h = record { low = grind (arith, nat_tests); high = grind (arith, nat_tests); value = grind (arith, nat_tests) }
 
@@ -50,6 +52,7 @@ pub record IsNextDigit (w : List ℕ) (i value : ℕ) : Type 0 where
   pub small : value * 10 + (slice_index w i - 48) < 2 ^ 64
   pub next : value * 10 + (slice_index w i - 48) ≡ digits_value 10 (take (i + 1) w)
 
+-- behind the value of the first i of few digits stands the next one
 pub next_digit : (w : List ℕ) (i value : ℕ) → AreFewDigits w → i < length w → value ≡ digits_value 10 (take i w) → IsNextDigit w i value
 next_digit w i value few below is =
     let digit : IsDigit (slice_index w i) = digit_from_value (slice_index w i) (digit_at w i few.digits below) in
@@ -62,6 +65,7 @@ next_digit w i value few below is =
       next = omega (arith, digits_value_more 10 w i below, is, digit.value);
     }
 
+-- a number has few digits
 pub few_digits : (w : List ℕ) → is_number w ≡ true → AreFewDigits w
 few_digits [] h = cc
 few_digits (b ∷ bs) h =
@@ -74,10 +78,12 @@ few_digits (b ∷ bs) h =
     within : nat_le (length (b ∷ bs)) MOST_DIGITS ≡ true → length (b ∷ bs) ≤ MOST_DIGITS
     within e = grind (arith, nat_tests)
 
+-- where all digits were read, their value is the number of the word
 pub number_is : (w : List ℕ) (value : ℕ) → is_number w ≡ true → value ≡ digits_value 10 w → Some value ≡ number_of w
 unfolding number_of
 number_is w value test e = ap (λ n. Some n) e ∙ ap (λ c. cond c (Some (digits_value 10 w)) None) (sym test)
 
+-- a word that is no number has none
 pub no_number : (w : List ℕ) → is_number w ≡ false → None ≡ number_of w
 unfolding number_of
 no_number w test = ap (λ c. cond c (Some (digits_value 10 w)) None) (sym test)
@@ -98,6 +104,7 @@ pub record IsSpelled (w : List ℕ) (k : ℕ) : Type 0 where
 lone_zero : (b : ℕ) (bs : List ℕ) → (length (b ∷ bs) == 1 || not (b == 48)) ≡ true → b ≡ 48 → length (b ∷ bs) ≡ 1
 lone_zero b bs t e = grind (arith, nat_tests)
 
+-- a word that is the number k is the one spelling of k
 pub spelled : (w : List ℕ) (k : ℕ) → number_of w ≡ Some k → IsSpelled w k
 unfolding number_of
 spelled [] k e = cc
@@ -146,6 +153,7 @@ pub record IsWord (k : ℕ) : Type 0 where
   pub some : 0 < length (decimal k)
   pub few : length (decimal k) ≤ 18
 
+-- the spelling of a number below 10^18 has at most 18 digits
 pub word_of : (k : ℕ) → k < 10 ^ 18 → IsWord k
 word_of k small =
     let wide : k < 2 ^ 64 = omega (arith, small) in
@@ -158,6 +166,7 @@ word_of k small =
     digits : (k : ℕ) → k < 2 ^ 64 → AllDigits 10 (decimal k)
     digits k wide = search (rules, digits_decimal own)
 
+-- .. and is read as that number
 pub read_again : (k : ℕ) → k < 10 ^ 18 → number_of (decimal k) ≡ Some k
 read_again k small =
     let wide : k < 2 ^ 64 = omega (arith, small) in

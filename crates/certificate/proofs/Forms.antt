@@ -1,4 +1,4 @@
--- The lines of edges and pairs, from the text to the map and back.
+-- The lines of edges and pairs, from the text to the map and back: for `pair_line`, and for the tables in `Texts`.
 use Rattle.std.specs.Prelude.{◌≡◌, ◌≢◌, ℕ, ◌-◌, ◌<◌, ◌≤◌, ◌^◌, Bool, true, false, not, ◌==◌, ◌&&◌, nat_lt, nat_le, if◌then◌else◌, List, [], ◌∷◌, Option, Some, None, refl}
 use Rattle.std.proofs.Common.{sym, ◌∙◌, ap, subst, arith}
 use Rattle.std.proofs.lemmas.Bool.Decides.{nat_tests}
@@ -12,6 +12,7 @@ use Rattle.certificate.specs.Answer.{if_fits}
 use Rattle.certificate.proofs.Cutting.{avoids}
 use Rattle.certificate.proofs.Spellings.{joint, some_same, AreSmall, AreNumbers, numbers_parts, numbers_again, spaced_avoids}
 
+-- an item that was given is one that fits
 pub fits_if : {V : Type 0} (fits : (ℕ × ℕ) × V → Bool) (o : Option ((ℕ × ℕ) × V)) (e : (ℕ × ℕ) × V) → Some e ≡ if_fits fits o → fits e ≡ true
 fits_if fits None e h = cc
 fits_if fits (Some p) e h = at (fits p) refl h
@@ -57,6 +58,7 @@ pair_row (a ∷ b ∷ c ∷ d ∷ f ∷ []) e h =
     subst (IsPairRow (a ∷ b ∷ c ∷ d ∷ f ∷ [])) (some_same ((a, b), record { dist = c; hops = d; next = f }) e h) made
 pair_row (a ∷ b ∷ c ∷ d ∷ f ∷ g ∷ ks) e h = cc
 
+-- the weight of an entry that was read has at most 18 digits
 pub pair_small : (fits : (ℕ × ℕ) × Entry → Bool) (line ks : List ℕ) (e : (ℕ × ℕ) × Entry) → numbers_in 5 line ≡ Some ks → Some e ≡ if_fits fits (pair_of ks) → e.1.dist < 10 ^ 18
 pair_small fits line ks e read h =
     let row = pair_row ks e (item_if fits (pair_of ks) e h) in
@@ -76,6 +78,7 @@ ends_facts n u v h = (grind (arith, nat_tests), grind (arith, nat_tests), λ e. 
 ends_test : (n u v : ℕ) → u < n → v < n → u ≢ v → ends_fit n (u, v) ≡ true
 ends_test n u v p q r = grind (arith, nat_tests)
 
+-- an edge that passes the test is an edge of a graph of n vertices
 pub edge_from_test : (n : ℕ) (e : (ℕ × ℕ) × ℕ) → edge_fits n e ≡ true → IsEdgeOf n e.0.0 e.0.1 e.1
 edge_from_test n e h =
     let s = both (ends_fit n e.0) (nat_le LEAST_WEIGHT e.1 && nat_le e.1 MOST_WEIGHT) h in
@@ -86,6 +89,7 @@ edge_from_test n e h =
     weight : (w : ℕ) → (nat_le 1 w && nat_le w 4294967295) ≡ true → (1 ≤ w) × (w ≤ 4294967295)
     weight w h = (grind (arith, nat_tests), grind (arith, nat_tests))
 
+-- .. and such an edge passes it
 pub edge_test : (n : ℕ) (e : (ℕ × ℕ) × ℕ) → IsEdgeOf n e.0.0 e.0.1 e.1 → edge_fits n e ≡ true
 edge_test n e h =
     ap (λ b. b && (nat_le LEAST_WEIGHT e.1 && nat_le e.1 MOST_WEIGHT)) (ends_test n e.0.0 e.0.1 h.from h.to h.apart)
@@ -94,6 +98,7 @@ edge_test n e h =
     weight : (w : ℕ) → 1 ≤ w → w ≤ 4294967295 → (nat_le 1 w && nat_le w 4294967295) ≡ true
     weight w p q = grind (arith, nat_tests)
 
+-- an entry that passes the test is within its ranges
 pub entry_from_test : (n : ℕ) (e : (ℕ × ℕ) × Entry) → pair_fits n e ≡ true → IsEntryOf n e.0.0 e.0.1 e.1
 entry_from_test n e h =
     let s = both (ends_fit n e.0) (entry_fits n e.0.0 e.1) h in
@@ -104,6 +109,7 @@ entry_from_test n e h =
     rest : (d h z x : ℕ) → (nat_le 1 d && ((nat_le 1 h && nat_le h (n - 1)) && (nat_lt z n && not (z == x)))) ≡ true → (1 ≤ d) × (1 ≤ h) × (h ≤ n - 1) × (z < n) × (z ≢ x)
     rest d h z x t = (grind (arith, nat_tests), grind (arith, nat_tests), grind (arith, nat_tests), grind (arith, nat_tests), λ e. grind (arith, nat_tests))
 
+-- .. and such an entry passes it
 pub entry_test : (n : ℕ) (e : (ℕ × ℕ) × Entry) → IsEntryOf n e.0.0 e.0.1 e.1 → pair_fits n e ≡ true
 entry_test n e h =
     ap (λ b. b && entry_fits n e.0.0 e.1) (ends_test n e.0.0 e.0.1 h.from h.to h.apart)
@@ -119,6 +125,7 @@ pub record IsForm {V : Type 0} (item_in : List ℕ → Option ((ℕ × ℕ) × V
   pub parts : (l : List ℕ) (e : (ℕ × ℕ) × V) → item_in l ≡ Some e → (l ≡ line e) × Few e
   pub again : (e : (ℕ × ℕ) × V) → fits e ≡ true → Few e → (item_in (line e) ≡ Some e) × (avoids 10 (line e) ≡ true)
 
+-- the lines of edges have the form of an item
 pub edges_form : (n : ℕ) → n ≤ MOST_VERTICES → IsForm edge_in (edge_fits n) edge_line (λ _. Unit {0})
 edges_form n most = record { parts = parts; again = again }
   where
@@ -136,6 +143,7 @@ edges_form n most = record { parts = parts; again = again }
         let s : AreSmall (e.0.0 ∷ e.0.1 ∷ e.1 ∷ []) = small e (edge_from_test n e h) in
         (ap (λ o. o and_then edge_of) (numbers_again e.0.0 (e.0.1 ∷ e.1 ∷ []) s), spaced_avoids (e.0.0 ∷ e.0.1 ∷ e.1 ∷ []) s)
 
+-- the lines of pairs have the form of an item
 pub pairs_form : (n : ℕ) → n ≤ MOST_VERTICES → IsForm pair_in (pair_fits n) pair_line (λ e. e.1.dist < 10 ^ 18)
 pairs_form n most = record { parts = parts; again = again }
   where

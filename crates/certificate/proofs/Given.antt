@@ -1,4 +1,4 @@
--- What a sink was given, give after give.
+-- What a sink was given, give after give: for `write_certificate` and the calls under it.
 use Rattle.std.specs.Prelude.{◌≡◌, ℕ, zero, suc, ◌+◌, ◌*◌, ◌<◌, ◌≤◌, Bool, is_some, if◌then◌else◌, List, [], ◌∷◌, ◌++◌, map as each, length, take, Option, Some, None, Result, Ok, Err, refl}
 use Rattle.std.specs.Io.KnownBytes.{Appends}
 use Rattle.std.proofs.Common.{sym, ◌∙◌, ap, subst, arith, append_assoc, append-nil, inl, inr, length-append}
@@ -14,6 +14,7 @@ use Rattle.certificate.specs.Giving.{GivesText}
 use Rattle.certificate.specs.Writing.{items_text, table_text}
 use Rattle.certificate.proofs.Texts.{joined_append}
 
+-- a sink that was given nothing is as it was
 pub appends_nothing : (old : Option (List ℕ)) → Appends old old []
 appends_nothing None = tt
 appends_nothing (Some xs) = sym (append-nil xs)
@@ -101,6 +102,7 @@ module _ {V : Type 0} where
     pub row_goes_on : (row : ℕ → Option V) (u v : ℕ) → Given old mid f g (items_text line (row_items row u v)) → Appends mid new (items_text line (item_list (u, v) (row v))) → g ≤ h → Given old new f h (items_text line (row_items row u (v + 1)))
     row_goes_on row u v x y z = given_more old mid new f g h _ _ _ x y z (ap (items_text line) (row_more row u v) ∙ text_append line (row_items row u v) (item_list (u, v) (row v)))
 
+    -- a give that fails in a row leaves a front of the row
     pub row_stops : (e : GiveError) (row : ℕ → Option V) (u v n : ℕ) → v < n → Given old mid f g (items_text line (row_items row u v)) → GivesText (Err e) mid new g h (items_text line (item_list (u, v) (row v))) → GivesText (Err e) old new f h (items_text line (row_items row u n))
     row_stops e row u v n below x y =
         let front : IsFront (row_items row u (v + 1)) (row_items row u n) = row_front row u (v + 1) n (omega (arith, below)) in
@@ -110,6 +112,7 @@ module _ {V : Type 0} where
     pub table_goes_on : (t : ℕ → ℕ → Option V) (n u : ℕ) → Given old mid f g (items_text line (table_items t n u)) → Appends mid new (items_text line (row_items (t u) u n)) → g ≤ h → Given old new f h (items_text line (table_items t n (u + 1)))
     table_goes_on t n u x y z = given_more old mid new f g h _ _ _ x y z (ap (items_text line) (table_more t n u) ∙ text_append line (table_items t n u) (row_items (t u) u n))
 
+    -- a row that fails leaves a front of the table
     pub table_stops : (e : GiveError) (t : ℕ → ℕ → Option V) (n u m : ℕ) → u < m → Given old mid f g (items_text line (table_items t n u)) → GivesText (Err e) mid new g h (items_text line (row_items (t u) u n)) → GivesText (Err e) old new f h (items_text line (table_items t n m))
     table_stops e t n u m below x y =
         let front : IsFront (table_items t n (u + 1)) (table_items t n m) = table_front t n (u + 1) m (omega (arith, below)) in
@@ -142,16 +145,20 @@ module _ {V : Type 0} where
 
 -- ---- whole parts of a text
 
+-- a line with a number, where the number is another name of it
 pub numbered : (r : Result (Unit {0}) GiveError) (old new : Option (List ℕ)) (f h : ℕ) (word : List ℕ) (k n : ℕ) → k ≡ n → GivesText r old new f h (named word k ++ 10 ∷ []) → GivesText r old new f h (named word n ++ 10 ∷ [])
 numbered r old new f h word k n e x = subst (λ j. GivesText r old new f h (named word j ++ 10 ∷ [])) e x
 
 module _ (a b c : List ℕ) where
+  -- the head fails in its first line
   pub head_stops_first : (e : GiveError) (old new : Option (List ℕ)) (f h : ℕ) → GivesText (Err e) old new f h (a ++ 10 ∷ []) → GivesText (Err e) old new f h (joined (a ∷ b ∷ c ∷ []))
   head_stops_first e old new f h x = given_stops e old old new f f h [] (a ++ 10 ∷ []) (joined (a ∷ b ∷ c ∷ [])) (joined (b ∷ c ∷ [])) (given_none old f) x refl
 
+  -- .. or in its second
   pub head_stops_second : (e : GiveError) (old mid new : Option (List ℕ)) (f g h : ℕ) → Appends old mid (a ++ 10 ∷ []) → f ≤ g → GivesText (Err e) mid new g h (b ++ 10 ∷ []) → GivesText (Err e) old new f h (joined (a ∷ b ∷ c ∷ []))
   head_stops_second e old mid new f g h x l y = given_stops e old mid new f g h (a ++ 10 ∷ []) (b ++ 10 ∷ []) (joined (a ∷ b ∷ c ∷ [])) (joined (c ∷ [])) (record { appends = x; later = l }) y refl
 
+  -- .. or is given up to what its third line gives
   pub head_last : (r : Result (Unit {0}) GiveError) (old first second new : Option (List ℕ)) (f g i h : ℕ) → Appends old first (a ++ 10 ∷ []) → f ≤ g → Appends first second (b ++ 10 ∷ []) → g ≤ i → GivesText r second new i h (c ++ 10 ∷ []) → GivesText r old new f h (joined (a ∷ b ∷ c ∷ []))
   head_last r old first second new f g i h x l y m z =
       given_last r old second new f i h ((a ++ 10 ∷ []) ++ (b ++ 10 ∷ [])) (c ++ 10 ∷ []) (joined (a ∷ b ∷ c ∷ []))
@@ -160,27 +167,33 @@ module _ (a b c : List ℕ) where
       (ap (λ r. (a ++ 10 ∷ []) ++ ((b ++ 10 ∷ []) ++ r)) (append-nil (c ++ 10 ∷ [])) ∙ sym (append_assoc (a ++ 10 ∷ []) (b ++ 10 ∷ []) (c ++ 10 ∷ [])))
 
 module _ {V : Type 0} (word : List ℕ) (line : (ℕ × ℕ) × V → List ℕ) (items : List ((ℕ × ℕ) × V)) (k : ℕ) (count : k ≡ length items) where
+  -- a table fails in the line of its count
   pub count_stops : (e : GiveError) (old new : Option (List ℕ)) (f h : ℕ) → GivesText (Err e) old new f h (named word k ++ 10 ∷ []) → GivesText (Err e) old new f h (table_text word line items)
   count_stops e old new f h x = given_stops e old old new f f h [] (named word (length items) ++ 10 ∷ []) (table_text word line items) (items_text line items) (given_none old f) (numbered (Err e) old new f h word k (length items) count x) refl
 
+  -- .. or is given up to what its items give
   pub items_last : (r : Result (Unit {0}) GiveError) (old mid new : Option (List ℕ)) (f g h : ℕ) → Appends old mid (named word k ++ 10 ∷ []) → f ≤ g → GivesText r mid new g h (items_text line items) → GivesText r old new f h (table_text word line items)
   items_last r old mid new f g h x l y =
       given_last r old mid new f g h (named word (length items) ++ 10 ∷ []) (items_text line items) (table_text word line items) (record { appends = subst (λ j. Appends old mid (named word j ++ 10 ∷ [])) count x; later = l }) y refl
 
 -- four parts, one behind the other
 module _ (a b c d whole : List ℕ) (is : whole ≡ a ++ (b ++ (c ++ d))) where
+  -- the whole fails in its first part
   pub stops_in_first : (e : GiveError) (old new : Option (List ℕ)) (f h : ℕ) → GivesText (Err e) old new f h a → GivesText (Err e) old new f h whole
   stops_in_first e old new f h x = given_stops e old old new f f h [] a whole (b ++ (c ++ d)) (given_none old f) x is
 
+  -- .. or in its second
   pub stops_in_second : (e : GiveError) (old mid new : Option (List ℕ)) (f g h : ℕ) → Appends old mid a → f ≤ g → GivesText (Err e) mid new g h b → GivesText (Err e) old new f h whole
   stops_in_second e old mid new f g h x l y = given_stops e old mid new f g h a b whole (c ++ d) (record { appends = x; later = l }) y is
 
   two : (old first second : Option (List ℕ)) (f g i : ℕ) → Appends old first a → f ≤ g → Appends first second b → g ≤ i → Given old second f i (a ++ b)
   two old first second f g i x l y m = given_more old first second f g i a b (a ++ b) (record { appends = x; later = l }) y m refl
 
+  -- .. or in its third
   pub stops_in_third : (e : GiveError) (old first second new : Option (List ℕ)) (f g i h : ℕ) → Appends old first a → f ≤ g → Appends first second b → g ≤ i → GivesText (Err e) second new i h c → GivesText (Err e) old new f h whole
   stops_in_third e old first second new f g i h x l y m z = given_stops e old second new f i h (a ++ b) c whole d (two old first second f g i x l y m) z (is ∙ sym (append_assoc a b (c ++ d)))
 
+  -- .. or is given up to what its last part gives
   pub last_part : (r : Result (Unit {0}) GiveError) (old first second third new : Option (List ℕ)) (f g i j h : ℕ) → Appends old first a → f ≤ g → Appends first second b → g ≤ i → Appends second third c → i ≤ j → GivesText r third new j h d → GivesText r old new f h whole
   last_part r old first second third new f g i j h x l y m z n w =
       given_last r old third new f j h ((a ++ b) ++ c) d whole (given_more old second third f i j (a ++ b) c ((a ++ b) ++ c) (two old first second f g i x l y m) z n refl) w

@@ -1,4 +1,4 @@
--- Behind the head all faults are in the fourth line or a later one.
+-- Behind the head all faults are in the fourth line or a later one: for `read_text` and `law_one_certificate`.
 use Rattle.std.specs.Prelude.{◌≡◌, ℕ, zero, suc, ◌+◌, ◌-◌, ◌*◌, ◌≤◌, ⊤, Bool, true, false, not, ◌==◌, ◌&&◌, nat_le, if◌then◌else◌, codes, List, length, Option, Some, None, Result, Ok, Err}
 use Rattle.std.specs.FinMap as map
 use Rattle.std.specs.Str.{bytes_eq}
@@ -105,6 +105,7 @@ body_late k h l =
     (λ es p. late_on (λ (x : map.FinMap pair_cmp _ × Rest). x.1) k (table_of (codes "pairs") pair_in (pair_fits h.vertices) h.vertices es.1) _ (table_goes pair_in (pair_fits h.vertices) k (codes "pairs") h.vertices es.1 p)
     (λ ps q. late_end k (end_line ps.1) (λ _. record { number = h.number; graph = record { vertices = h.vertices; edges = es.0 }; entries = ps.0 }) (end_late k ps.1 q)))
 
+-- a body that starts in the fourth line has no fault before it
 pub not_early : (h : Head) (r : Result Stated CertError) → r ≡ body_of h → 4 ≤ h.rest.number → IsEarly r → ⊥
 not_early h r e l early = at (body_of h) (body_late 4 h l) (subst IsEarly e early)
   where
@@ -132,6 +133,7 @@ head_goes k r h =
     (λ a p. goes_on (λ (x : ℕ × Rest). x.1) (λ (d : Head). d.rest) k (named_line (codes "number") a) _ (named_goes k (codes "number") a p)
     (λ c q. goes_on (λ (x : ℕ × Rest). x.1) (λ (d : Head). d.rest) k (vertices_line c.1) (λ n. Ok (record { number = c.0; vertices = n.0; rest = n.1 })) (vertices_goes k c.1 q) (λ n u. u)))
 
+-- want of memory is no fault of a text
 pub never_memory : (bytes : List ℕ) → stated_by bytes ≡ Err Memory → ⊥
 never_memory bytes e =
     let r : Rest = record { number = 1; bytes = bytes } in

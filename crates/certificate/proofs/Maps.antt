@@ -1,4 +1,4 @@
--- Maps that are made of rising items, and the items of a map.
+-- Maps that are made of rising items, and the items of a map: for `Tables` and `Texts`.
 use Rattle.std.specs.Prelude.{◌≡◌, ℕ, ⊤, Bool, true, false, ◌==◌, ◌&&◌, cond, List, [], ◌∷◌, ◌++◌, length, Option, Some, None, refl}
 use Rattle.std.specs.Ordering.{nat_cmp, ordering_then, eq_by_cmp, is_lt}
 use Rattle.std.specs.declared.cmp.Ordering.{Ordering}
@@ -18,6 +18,7 @@ use Rattle.certificate.proofs.Spellings.{some_same}
 
 -- ---- pairs that rise
 
+-- rising goes on over a pair between
 pub rises_chain : (before : Option (ℕ × ℕ)) (p q : ℕ × ℕ) → rises before p ≡ true → rises (Some p) q ≡ true → rises before q ≡ true
 rises_chain None p q h k = refl
 rises_chain (Some b) p q h k = grind (arith, nat_tests)
@@ -35,6 +36,7 @@ lt_rises p q h = at (nat_cmp p.0 q.0) refl (nat_cmp p.1 q.1) refl h
     at Equal e Greater f h = absurd h
     at Greater e s f h = absurd h
 
+-- pairs tie where both their numbers are equal
 pub same_pair : (a b u v : ℕ) → eq_by_cmp pair_cmp (a, b) (u, v) ≡ (a == u && b == v)
 same_pair a b u v = grind (arith, nat_tests)
 
@@ -50,6 +52,7 @@ tied_itself p = same_pair p.0 p.1 p.0 p.1 ∙ at
     at : (p.0 == p.0 && p.1 == p.1) ≡ true
     at = grind (arith, nat_tests)
 
+-- pairs that tie are the same
 pub tied_same : (p q : ℕ × ℕ) → eq_by_cmp pair_cmp p q ≡ true → p ≡ q
 tied_same p q h = let e : pair_cmp p q ≡ Equal = is_equal (pair_cmp p q) h in exact_pair p q e
   where
@@ -65,14 +68,17 @@ both_true false b h = absurd h
 -- ---- items whose pairs rise
 
 module _ {V : Type 0} where
+  -- the pairs of the items rise, from the given one on
   abbrev pub Rising : Option (ℕ × ℕ) → List ((ℕ × ℕ) × V) → Type 0
   Rising before [] = ⊤
   Rising before (e ∷ es) = (rises before e.0 ≡ true) × Rising (Some e.0) es
 
+  -- P holds of each item
   abbrev pub EachOf : ((ℕ × ℕ) × V → Type 0) → List ((ℕ × ℕ) × V) → Type 0
   EachOf P [] = ⊤
   EachOf P (e ∷ es) = P e × EachOf P es
 
+  -- .. and then what follows from P
   pub each_weaker : (P Q : (ℕ × ℕ) × V → Type 0) (es : List ((ℕ × ℕ) × V)) → ((e : (ℕ × ℕ) × V) → P e → Q e) → EachOf P es → EachOf Q es
   each_weaker P Q [] f h = tt
   each_weaker P Q (e ∷ es) f h = (f e h.0, each_weaker P Q es f h.1)
@@ -84,6 +90,7 @@ module _ {V : Type 0} where
       let s = both_true (below_all pair_cmp e.0 es) (is_sorted pair_cmp es) sorted in
       (lt_rises q e.0 b.0, rising_after e.0 es s.0 s.1)
 
+  -- items that are sorted rise
   pub rising_from_sorted : (es : List ((ℕ × ℕ) × V)) → T (is_sorted pair_cmp es) → Rising None es
   rising_from_sorted [] sorted = tt
   rising_from_sorted (e ∷ es) sorted =
@@ -124,11 +131,13 @@ module _ {V : Type 0} where
       none_of [] e = refl
       none_of (x ∷ es) e = absurd (omega arith)
 
+  -- rising items, put into a map, are its entries
   pub entries_made : (es : List ((ℕ × ℕ) × V)) → Rising None es → map.entries (insert_all map.empty es) ≡ es
   entries_made es h =
       let upto : IsUpTo None (map.entries (map.empty {X = V} {R = pair_cmp})) = subst (IsUpTo None) (sym no_entries) (record { below = λ k r. tt }) in
       entries_onto map.empty es None upto h ∙ ap (λ xs. xs ++ es) no_entries
 
+  -- a map is made of its own entries
   pub made_again : (m : map.FinMap pair_cmp V) → insert_all map.empty (map.entries m) ≡ m
   made_again m = map.same_entries_map (insert_all map.empty (map.entries m)) m (entries_made (map.entries m) (rising_from_sorted (map.entries m) (map.entries_sorted m)))
 
@@ -170,5 +179,6 @@ module _ {V : Type 0} where
   pub each_of_map : (P : (ℕ × ℕ) × V → Type 0) (m : map.FinMap pair_cmp V) → ((q : ℕ × ℕ) (v : V) → map.get m q ≡ Some v → P (q, v)) → EachOf P (map.entries m)
   each_of_map P m p = each_found P (map.entries m) (map.entries m) (found_all (map.entries m) (map.entries_sorted m)) (λ q v e. p q v (map.get-entries m q ∙ e))
 
+  -- what holds of each entry of a map holds of what it has at a pair
   pub map_of_each : (P : (ℕ × ℕ) × V → Type 0) (m : map.FinMap pair_cmp V) → EachOf P (map.entries m) → (q : ℕ × ℕ) (v : V) → map.get m q ≡ Some v → P (q, v)
   map_of_each P m each q v e = found_among P (map.entries m) q v each (sym (map.get-entries m q) ∙ e)

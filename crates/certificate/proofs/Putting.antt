@@ -1,4 +1,4 @@
--- What is stated after one more edge or entry was put into its cell.
+-- What is stated after one more edge or entry was put into its cell: for the calls of `Stated`.
 use Rattle.std.specs.Prelude.{◌≡◌, ◌≢◌, ℕ, ◌+◌, ◌*◌, ◌<◌, ◌^◌, ◌==◌, ◌&&◌, Bool, true, false, cond, if◌then◌else◌, List, replicate, slice_set, Option, Some, None, refl}
 use Rattle.std.specs.Option.{option_map}
 use Rattle.std.specs.Ordering.{eq_by_cmp}
@@ -121,6 +121,7 @@ put_none number n count small =
     no_entry : (d : Stated_entry) → None ≡ Some d → ⊥
     no_entry d e = cc
 
+-- tables of empty cells state no edge and no entry
 pub made_none : (number n : ℕ) (weights : List (Option ℕ)) (entries : List (Option Entry)) → IsVertexCount n → number < 10 ^ 18 → weights ≡ replicate (n * n) None → entries ≡ replicate (n * n) None → IsPut number n weights entries (record { number = number; graph = no_edges n; entries = map.empty })
 made_none number n weights entries count small w e =
     let P : List (Option ℕ) → Type 0 = λ ws. IsPut number n ws entries (record { number = number; graph = no_edges n; entries = map.empty }) in
@@ -133,6 +134,7 @@ put_edge_in number n weights entries s e is h f =
     let vertices : s.graph.vertices ≡ n = ap (λ (t : Stated). t.graph.vertices) (sym is) in
     subst (λ t. IsPut number n (slice_set weights (e.0.0 * n + e.0.1) (Some e.1)) entries (with_edge t e)) is (put_edge number n weights entries e h (ap (λ k. edge_fits k e) (sym vertices) ∙ f))
 
+-- an entry that is put into its cell is stated
 pub put_pair_in : (number n : ℕ) (weights : List (Option ℕ)) (entries : List (Option Entry)) (s : Stated) (q : ℕ × ℕ) (e : Entry) → stated_in number n weights entries ≡ s → AreTables number n weights entries → pair_fits s.graph.vertices (q, stated e) ≡ true → e.dist < 10 ^ 18 → IsPut number n weights (slice_set entries (q.0 * n + q.1) (Some e)) (with_pair s (q, stated e))
 put_pair_in number n weights entries s q e is h f few =
     let vertices : s.graph.vertices ≡ n = ap (λ (t : Stated). t.graph.vertices) (sym is) in
@@ -144,6 +146,7 @@ weight_in number n weights entries s u v is p q =
     let vertices : n ≡ s.graph.vertices = ap (λ (t : Stated). t.graph.vertices) is in
     sym (get_inside n (λ u v. cell_at weights (u * n + v)) u v (omega (arith, p, vertices)) (omega (arith, q, vertices))) ∙ ap (λ (t : Stated). weight_at t.graph u v) is
 
+-- the cell of a pair has its entry
 pub entry_in : (number n : ℕ) (weights : List (Option ℕ)) (entries : List (Option Entry)) (s : Stated) (x y : ℕ) → stated_in number n weights entries ≡ s → x < s.graph.vertices → y < s.graph.vertices → x ≢ y → entry_cell entries (x * n + y) ≡ entry_at s x y
 entry_in number n weights entries s x y is p q apart =
     let vertices : n ≡ s.graph.vertices = ap (λ (t : Stated). t.graph.vertices) is in

@@ -1,4 +1,4 @@
--- A line and the numbers in it, from the text to the numbers and back.
+-- A line and the numbers in it, from the text to the numbers and back: for `named_line`, and for `Forms` and `Texts`.
 use Rattle.std.specs.Prelude.{◌≡◌, ℕ, zero, suc, ◌+◌, ◌<◌, ◌^◌, ⊤, Bool, true, false, if◌then◌else◌, List, [], ◌∷◌, ◌++◌, length, Option, Some, None, Result, Ok, Err, refl}
 use Rattle.std.specs.Fmt.{decimal}
 use Rattle.std.specs.Str.{bytes_eq}
@@ -15,24 +15,29 @@ use Rattle.certificate.proofs.Cutting.{avoids, IsCutAt, cut_parts, cut_again, av
 
 -- ---- options and results
 
+-- what there is behind an option and the function that follows it
 pub record IsJoint {A B : Type 0} (o : Option A) (f : A → Option B) (y : B) : Type 0 where
   pub value : A
   pub first : o ≡ Some value
   pub second : f value ≡ Some y
 
+-- where both give something
 pub joint : {A B : Type 0} (o : Option A) (f : A → Option B) (y : B) → (o and_then f) ≡ Some y → IsJoint o f y
 joint (Some x) f y e = record { value = x; first = refl; second = e }
 joint None f y e = cc
 
+-- what there is behind a result and the function that follows it
 pub record IsBound {A B : Type 0} (m : Result A CertError) (f : A → Result B CertError) (y : B) : Type 0 where
   pub value : A
   pub first : m ≡ Ok value
   pub second : f value ≡ Ok y
 
+-- where both give something
 pub bound : {A B : Type 0} (m : Result A CertError) (f : A → Result B CertError) (y : B) → (m >>= f) ≡ Ok y → IsBound m f y
 bound (Ok x) f y e = record { value = x; first = refl; second = e }
 bound (Err r) f y e = cc
 
+-- what is not refused for its shape is there
 pub shaped : {A : Type 0} (o : Option A) (line : ℕ) (x : A) → or_shape o line ≡ Ok x → o ≡ Some x
 shaped (Some y) line x e = cc
 shaped None line x e = cc
@@ -42,9 +47,11 @@ pub passed : {A : Type 0} (b : Bool) (x y : A) (e : CertError) → ◌≡◌ {A 
 passed true x y e h = (refl, cc)
 passed false x y e h = cc
 
+-- one value that is there
 pub some_same : {A : Type 0} (x y : A) → Some x ≡ Some y → x ≡ y
 some_same x y e = cc
 
+-- one value that is given
 pub ok_same : {A : Type 0} (x y : A) → ◌≡◌ {A = Result A CertError} (Ok x) (Ok y) → x ≡ y
 ok_same x y e = cc
 
@@ -58,6 +65,7 @@ bytes_same a = grind (arith, bytes_eq-Decides a a)
 
 -- ---- numbers
 
+-- each number is below 10^18
 abbrev pub AreSmall : List ℕ → Type 0
 AreSmall [] = ⊤
 AreSmall (k ∷ ks) = (k < 10 ^ 18) × AreSmall ks
@@ -85,11 +93,13 @@ number_before_parts s a e =
     let P : ℕ × List ℕ → Type 0 = λ b. IsBefore s b.1 b.0 in
     subst P same made
 
+-- s is the spelling of the n numbers ks, with spaces between them
 pub record AreNumbers (n : ℕ) (s ks : List ℕ) : Type 0 where
   pub text : s ≡ spaced ks
   pub count : length ks ≡ n
   pub small : AreSmall ks
 
+-- a line from which n numbers are read is their spelling
 pub numbers_parts : (n : ℕ) (s ks : List ℕ) → numbers_in (suc n) s ≡ Some ks → AreNumbers (suc n) s ks
 numbers_parts zero s ks e =
     let j = joint (number_of s) (λ k. Some (k ∷ [])) ks e in
@@ -111,12 +121,14 @@ numbers_parts (suc n) s ks e =
       small = (here.small, later.small);
     }
 
+-- .. and from their spelling they are read
 pub numbers_again : (k : ℕ) (ks : List ℕ) → AreSmall (k ∷ ks) → numbers_in (suc (length ks)) (spaced (k ∷ ks)) ≡ Some (k ∷ ks)
 numbers_again k [] small = ap (λ o. o and_then (λ j. Some (j ∷ []))) (read_again k small.0)
 numbers_again k (l ∷ ks) small =
     ap (λ o. o and_then (λ a. numbers_in (suc (length ks)) a.1 and_then (λ ls. Some (a.0 ∷ ls)))) (number_before_again k (spaced (l ∷ ks)) small.0)
     ∙ ap (λ o. o and_then (λ ls. Some (k ∷ ls))) (numbers_again l ks small.1)
 
+-- the spelling of numbers has no newline
 pub spaced_avoids : (ks : List ℕ) → AreSmall ks → avoids 10 (spaced ks) ≡ true
 spaced_avoids [] small = refl
 spaced_avoids (k ∷ []) small = word_avoids 10 k (omega arith) small.0
@@ -124,10 +136,12 @@ spaced_avoids (k ∷ l ∷ ks) small = avoids-append 10 (decimal k) (32 ∷ spac
 
 -- ---- a word and a number
 
+-- s is the word with the number k behind it
 pub record IsNamed (word s : List ℕ) (k : ℕ) : Type 0 where
   pub text : s ≡ named word k
   pub small : k < 10 ^ 18
 
+-- a line from which a number is read behind a word is of that form
 pub named_parts : (word s : List ℕ) (k : ℕ) → number_behind word s ≡ Some k → IsNamed word s k
 named_parts word s k e =
     let a = joint (cut 32 s) (λ p. if bytes_eq p.0 word then number_of p.1 else None) k e in
@@ -151,13 +165,16 @@ named_avoids word k clean small = avoids-append 10 word (32 ∷ decimal k) clean
 
 -- ---- lines
 
+-- a line with its newline is read as that line
 pub line_again : (number : ℕ) (line rest : List ℕ) → avoids 10 line ≡ true → line_at (record { number = number; bytes = line ++ 10 ∷ rest }) ≡ Ok (line, record { number = number + 1; bytes = rest })
 line_again number line rest clean = ap (λ o. or_shape o number >>= (λ l. Ok (l.0, record { number = number + 1; bytes = l.1 }))) (cut_again 10 line rest clean)
 
+-- what is left begins with the line, and goes on behind it
 pub record IsLine (r : Rest) (line : List ℕ) (next : Rest) : Type 0 where
   pub bytes : r.bytes ≡ line ++ 10 ∷ next.bytes
   pub number : next.number ≡ r.number + 1
 
+-- what a line was read from
 pub line_parts : (r : Rest) (l : List ℕ × Rest) → line_at r ≡ Ok l → IsLine r l.0 l.1
 line_parts r l e =
     let a = bound (or_shape (cut 10 r.bytes) r.number) (λ c. Ok (c.0, record { number = r.number + 1; bytes = c.1 })) l e in
@@ -167,11 +184,13 @@ line_parts r l e =
     let same : ◌≡◌ {A = List ℕ × Rest} (a.value.0, record { number = r.number + 1; bytes = a.value.1 }) l = ok_same _ l a.second in
     subst P same made
 
+-- a fixed line is read where it stands
 pub fixed_again : (number : ℕ) (line rest : List ℕ) → avoids 10 line ≡ true → fixed_line line (record { number = number; bytes = line ++ 10 ∷ rest }) ≡ Ok (record { number = number + 1; bytes = rest })
 fixed_again number line rest clean =
     ap (λ m. m >>= (λ l. if bytes_eq l.0 line then Ok l.1 else Err (Shape number))) (line_again number line rest clean)
     ∙ ap (λ b. if b then Ok (record { number = number + 1; bytes = rest }) else Err (Shape number)) (bytes_same line)
 
+-- what a fixed line was read from
 pub fixed_parts : (text : List ℕ) (r next : Rest) → fixed_line text r ≡ Ok next → IsLine r text next
 fixed_parts text r next e =
     let a = bound (line_at r) (λ l. if bytes_eq l.0 text then Ok l.1 else Err (Shape r.number)) next e in
@@ -181,15 +200,18 @@ fixed_parts text r next e =
     let Q : Rest → Type 0 = λ n. IsLine r text n in
     subst Q t.1 (subst P (same_bytes a.value.0 text t.0) line)
 
+-- a line of a word and a number is read where it stands
 pub named_line_again : (number : ℕ) (word : List ℕ) (k : ℕ) (rest : List ℕ) → avoids 10 word ≡ true → avoids 32 word ≡ true → k < 10 ^ 18 → named_line word (record { number = number; bytes = named word k ++ 10 ∷ rest }) ≡ Ok (k, record { number = number + 1; bytes = rest })
 named_line_again number word k rest clean one small =
     ap (λ m. m >>= (λ l. or_shape (number_behind word l.0) number >>= (λ j. Ok (j, l.1)))) (line_again number (named word k) rest (named_avoids word k clean small))
     ∙ ap (λ o. or_shape o number >>= (λ j. Ok (j, record { number = number + 1; bytes = rest }))) (named_again word k one small)
 
+-- what is left begins with a line of the word and the number k
 pub record IsNamedLine (word : List ℕ) (r : Rest) (k : ℕ) (next : Rest) : Type 0 where
   pub line : IsLine r (named word k) next
   pub small : k < 10 ^ 18
 
+-- what such a line was read from
 pub named_line_parts : (word : List ℕ) (r : Rest) (x : ℕ × Rest) → named_line word r ≡ Ok x → IsNamedLine word r x.0 x.1
 named_line_parts word r x e =
     let a = bound (line_at r) (λ l. or_shape (number_behind word l.0) r.number >>= (λ k. Ok (k, l.1))) x e in

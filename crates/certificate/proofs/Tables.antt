@@ -1,4 +1,4 @@
--- The map of a table: its items in order, and what it has at a pair.
+-- The map of a table: its items in order, and what it has at a pair: for `Putting` and `Versions`.
 use Rattle.std.specs.Prelude.{◌≡◌, ◌≢◌, ℕ, zero, suc, ◌+◌, ◌*◌, ◌<◌, ◌⊎◌, ◌==◌, ◌&&◌, nat_lt, Bool, true, false, cond, if◌then◌else◌, List, [], ◌∷◌, ◌++◌, length, replicate, slice_set, Option, Some, None, refl}
 use Rattle.std.specs.Option.{option_or}
 use Rattle.std.specs.Ordering.{eq_by_cmp}
@@ -21,6 +21,7 @@ row_step u v = grind (arith, nat_tests)
 table_step : (u n : ℕ) → rises (Some (u, n)) (suc u, 0) ≡ true
 table_step u n = grind (arith, nat_tests)
 
+-- both numbers are below n, or not both
 pub cases_inside : (n u v : ℕ) → ((u < n) × (v < n)) ⊎ (u < n → v < n → ⊥)
 cases_inside n u v = elim (cases_lt u n) [
   | inl p ↦ elim (cases_lt v n) [ inl q ↦ inl (p, q) | inr q ↦ inr (λ _ r. omega (arith, q, r)) ]
@@ -128,6 +129,7 @@ module _ {V : Type 0} where
   table_rising f n zero = record { rising = tt; under = tt }
   table_rising f n (suc u) = to_later (u, n) (suc u, 0) (table_items f n (suc u)) (table_step u n) (row_rising (f u) u n (table_items f n u) (table_rising f n u))
 
+  -- the entries of the map of a table are its items, row by row
   pub entries-map_of : (n : ℕ) (f : ℕ → ℕ → Option V) → map.entries (map_of n f) ≡ table_items f n n
   unfolding map_of
   entries-map_of n f = entries_made (table_items f n n) (table_rising f n n).rising
@@ -135,6 +137,7 @@ module _ {V : Type 0} where
   pub get-map_of : (n : ℕ) (f : ℕ → ℕ → Option V) (u v : ℕ) → map.get (map_of n f) (u, v) ≡ (if nat_lt u n && nat_lt v n then f u v else None)
   get-map_of n f u v = map.get-entries (map_of n f) (u, v) ∙ ap (find pair_cmp (u, v)) (entries-map_of n f) ∙ find-table f n n u v
 
+  -- the map has at a pair below n what the table has there
   pub get_inside : (n : ℕ) (f : ℕ → ℕ → Option V) (u v : ℕ) → u < n → v < n → map.get (map_of n f) (u, v) ≡ f u v
   get_inside n f u v p q = get-map_of n f u v ∙ at (f u v) p q
     where
@@ -142,6 +145,7 @@ module _ {V : Type 0} where
       at None p q = grind (arith, nat_tests)
       at (Some w) p q = grind (arith, nat_tests)
 
+  -- .. and nothing elsewhere
   pub get_outside : (n : ℕ) (f : ℕ → ℕ → Option V) (u v : ℕ) → (u < n → v < n → ⊥) → map.get (map_of n f) (u, v) ≡ None
   get_outside n f u v out = get-map_of n f u v ∙ at (f u v) out
     where
@@ -175,6 +179,7 @@ module _ {V : Type 0} where
       at : (u v : ℕ) → map.get (map_of n g) (u, v) ≡ map.get (map.insert (map_of n f) (a, b) w) (u, v)
       at u v = elim (cases_inside n u v) [ inl i ↦ inside u v i.0 i.1 | inr o ↦ outside u v o ]
 
+  -- the map of a table of nothing is empty
   pub map_none : (n : ℕ) (f : ℕ → ℕ → Option V) → ((u v : ℕ) → u < n → v < n → f u v ≡ None) → map_of n f ≡ map.empty
   map_none n f none = map.same_map pairs_total exact_pair (map_of n f) map.empty (λ k. elim (cases_inside n k.0 k.1) [
     | inl i ↦ get_inside n f k.0 k.1 i.0 i.1 ∙ none k.0 k.1 i.0 i.1 ∙ sym (map.get-empty pair_cmp (k.0, k.1))
@@ -184,12 +189,14 @@ module _ {V : Type 0} where
 -- ---- cells
 
 module _ {A : Type 0} where
+  -- empty cells have nothing at any place
   pub no_cells : (n i : ℕ) → cell_at {A = A} (replicate n None) i ≡ None
   no_cells n i = elim (cases_lt i n) [
     | inl p ↦ get_or-replicate n i None None p
     | inr p ↦ get_or_past (replicate n None) i None (omega (arith, length-replicate n (let x : Option A = None in x), p))
   ]
 
+  -- a cell that was set has its value, and the others are as they were
   pub cell_put : (n a b : ℕ) (cells : List (Option A)) (w : A) → length cells ≡ n * n → a < n → b < n → (u v : ℕ) → u < n → v < n → cell_at (slice_set cells (a * n + b) (Some w)) (u * n + v) ≡ (if u == a && v == b then Some w else cell_at cells (u * n + v))
   cell_put n a b cells w size p q u v r s = elim (cases_eq (u * n + v) (a * n + b)) [
     | inl same ↦ here (same_from_place u v a b n s q same)

@@ -1,4 +1,4 @@
--- Whole texts, from the text to what it states and back.
+-- Whole texts, from the text to what it states and back: for `read_certificate` and `law_one_certificate`.
 use Rattle.std.specs.Prelude.{◌≡◌, ℕ, zero, suc, ◌+◌, ◌-◌, ◌*◌, ◌<◌, ◌≤◌, ◌^◌, Bool, true, false, not, ◌==◌, ◌&&◌, nat_le, if◌then◌else◌, codes, List, [], ◌∷◌, ◌++◌, map as each, length, Option, Some, None, Result, Ok, Err, IfOk, refl}
 use Rattle.std.specs.FinMap as map
 use Rattle.std.proofs.Common.{sym, ◌∙◌, ap, subst, arith, append_assoc}
@@ -29,6 +29,7 @@ joined_parts : (a b : List (List ℕ)) (t : List ℕ) → joined (a ++ b) ++ t �
 joined_parts [] b t = refl
 joined_parts (l ∷ a) b t = joined_step l (a ++ b) t ∙ ap (λ r. l ++ 10 ∷ r) (joined_parts a b t) ∙ sym (joined_step l a (joined b ++ t))
 
+-- lines behind lines are joined to text behind text
 pub joined_append : (a b : List (List ℕ)) → joined (a ++ b) ≡ joined a ++ joined b
 joined_append a b = sym (append-nil (joined (a ++ b))) ∙ joined_parts a b [] ∙ ap (λ r. joined a ++ r) (append-nil (joined b))
 
@@ -212,6 +213,7 @@ blocks a b c d =
     ∙ joined_parts a (b ++ (c ++ d)) []
     ∙ ap (λ r. joined a ++ r) (joined_parts b (c ++ d) [] ∙ ap (λ r. joined b ++ r) (joined_parts c d [] ∙ ap (λ r. joined c ++ r) (append-nil (joined d))))
 
+-- the text of a stated value is its head, its edges, its pairs and the last line
 pub text_blocks : (s : Stated) → text_of s ≡ joined (head_lines s) ++ (joined (edge_lines s) ++ (joined (pair_lines s) ++ (codes "end" ++ 10 ∷ [])))
 text_blocks s = blocks (head_lines s) (edge_lines s) (pair_lines s) (codes "end" ∷ [])
 
@@ -273,6 +275,7 @@ body_text h s bytes small some most front e =
           ∙ sym (text_blocks (record { number = h.number; graph = record { vertices = n; edges = E.value.0 }; entries = P.value.0 }));
     })
 
+-- what is read from a text has that text
 pub text_parts : (bytes : List ℕ) (s : Stated) → stated_by bytes ≡ Ok s → IsCertText s bytes
 text_parts bytes s e =
     let H = bound (head_of (record { number = 1; bytes = bytes })) body_of s e in
@@ -350,17 +353,21 @@ text_again s w =
     ∙ ap (λ (o : Result Head CertError). o >>= body_of) (head_again s.number s.graph.vertices (joined (edge_lines s) ++ (joined (pair_lines s) ++ (codes "end" ++ 10 ∷ []))) w.number w.range.graph.some w.range.graph.most)
     ∙ body_again s w
 
+-- .. and from its text a stated value is read
 pub cert_again : (s : Stated) (bytes : List ℕ) → IsCertText s bytes → stated_by bytes ≡ Ok s
 cert_again s bytes h = ap stated_by h.text ∙ text_again s h.writable
 
+-- a text states one value
 pub one_stated : (s t : Stated) (bytes : List ℕ) → IsCertText s bytes → IsCertText t bytes → s ≡ t
 one_stated s t bytes h k = ok_same s t (sym (cert_again s bytes h) ∙ cert_again t bytes k)
 
 -- ---- from the exact answer to the grammar
 
+-- what is found is what the text states
 pub found_is : (bytes : List ℕ) (r : Result Stated CertError) → GivesOrMemory (λ s. s) r (stated_by bytes) → IfOk r (λ s. IsCertText s bytes)
 found_is bytes (Ok s) h = text_parts bytes s h
 found_is bytes (Err e) h = tt
 
+-- a text of s is found to state s, or memory ran out
 pub only_is : (bytes : List ℕ) (r : Result Stated CertError) → GivesOrMemory (λ s. s) r (stated_by bytes) → (s : Stated) → IsCertText s bytes → GivesOrMemory (λ s. s) r (Ok s)
 only_is bytes r h s text = subst (GivesOrMemory (λ s. s) r) (cert_again s bytes text) h

@@ -1,4 +1,4 @@
--- What a version states is one value, which is lawful and can be written.
+-- What a version states is one value, which is lawful and can be written: for `law_version`.
 use Rattle.std.specs.Prelude.{◌≡◌, ◌≢◌, ℕ, ◌<◌, ◌≤◌, ◌^◌, if◌then◌else◌, List, [], ◌∷◌, length, Option, Some, None, IsSome, IsSomeAnd, MatchOption, unwrap_or, refl}
 use Rattle.std.specs.FinMap as map
 use Rattle.std.proofs.Common.{sym, ◌∙◌, ap, subst, inl, inr, arith}
@@ -37,6 +37,7 @@ module _ (v : Seen) (s : Stated) (is : IsStatedOf v s) where
   entry_outside : (x y : ℕ) → ((x < v.graph.vertices) → (y < v.graph.vertices) → x ≢ y → ⊥) → map.get s.entries (x, y) ≡ None
   entry_outside x y out = none_or_some (map.get s.entries (x, y)) (map.get s.entries (x, y) ≡ None) (λ e. e) (λ w e. absurd (let i = is.inside x y w e in out i.0 i.1 i.2))
 
+-- a version states one value
 pub one_stated_of : (v : Seen) (s t : Stated) → IsStatedOf v s → IsStatedOf v t → s ≡ t
 one_stated_of v s t h k =
     let number : s.number ≡ t.number = h.number ∙ sym k.number in
@@ -88,6 +89,7 @@ module _ (v : Seen) (s : Stated) (is : IsStatedOf v s) where
       let F : Option Entry → Type 0 = λ o. IsSomeAnd o (λ e. e.next ≡ z) in
       (apart, subst F (sym entry) refl, follows_next z y (z ∷ q) b (rest_is_least v.graph x y a z q least))
 
+  -- what a version states is lawful
   pub lawful_of : IsLawful s
   lawful_of x y p q apart =
       let a : x < v.graph.vertices = subst (λ (g : Graph). x < g.vertices) is.graph p in
@@ -144,6 +146,7 @@ walk_entry g x y (c ∷ z ∷ q) graph a b apart least =
     no_loop None e h same = cc
     no_loop (Some w) e h same = (graph.edges c z w e).apart same
 
+-- .. and can be written
 pub writable_of : (v : Seen) (s : Stated) → IsGraph v.graph → v.number < 10 ^ 18 → IsStatedOf v s → IsWritable s
 writable_of v s graph small is = record {
   range = record {

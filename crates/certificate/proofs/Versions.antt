@@ -1,4 +1,4 @@
--- What a version states.
+-- What a version states: for `write_certificate` and `law_version`.
 use Rattle.std.specs.Prelude.{◌≡◌, ◌≢◌, ℕ, ◌<◌, ◌≤◌, ◌==◌, if◌then◌else◌, codes, List, [], ◌∷◌, ◌++◌, map as each, length, Option, Some, None, refl}
 use Rattle.std.specs.FinMap as map
 use Rattle.std.proofs.Common.{sym, ◌∙◌, ap, subst, inl, inr, arith}
@@ -25,6 +25,7 @@ use Rattle.certificate.proofs.Texts.{text_blocks}
 
 -- ---- a cell of the rows, and the entry of the pair
 
+-- the entry of a least walk, and none where there is none
 abbrev pub entry_of : Graph → Option (List ℕ) → Option Entry
 entry_of g None = None
 entry_of g (Some p) = Some (record { dist = weight_of g p; hops = hops_of p; next = second_of p })
@@ -45,9 +46,11 @@ near g x y p graph least =
     let short : length p ≤ g.vertices = simple_walk_is_short g p least.walk.walk (least_is_simple g p (x, y, least)) in
     omega (arith, weight_most g graph p, mul-le (hops_of p) MOST_WEIGHT 128 4294967295 (omega (arith, short, graph.most)) (omega arith))
 
+-- a vertex has no entry to itself
 pub none_itself : (g : Graph) (f : ℕ → ℕ → Option Entry) (x y : ℕ) → IsEntryTable g f → x ≡ y → None ≡ f x y
 none_itself g f x y h e = sym (subst (λ z. f x z ≡ None) e (h.own x))
 
+-- .. nor a pair without a walk
 pub none_far : (g : Graph) (f : ℕ → ℕ → Option Entry) (x y d : ℕ) → IsGraph g → IsEntryTable g f → x < g.vertices → y < g.vertices → x ≢ y → DistIs g x y d → d ≡ NO_DISTANCE → None ≡ f x y
 none_far g f x y d graph h p q apart dist far = at dist.0 dist.1 dist.2
   where
@@ -55,6 +58,7 @@ none_far g f x y d graph h p q apart dist far = at dist.0 dist.1 dist.2
     at None least e = sym (entry_is g x y (f x y) None (h.entries x y p q apart) least)
     at (Some w) least e = absurd (omega (arith, near g x y w graph least, e, far))
 
+-- each other pair has the entry of its least walk
 pub some_here : (g : Graph) (f : ℕ → ℕ → Option Entry) (x y d k z : ℕ) → IsEntryTable g f → x < g.vertices → y < g.vertices → x ≢ y → DistIs g x y d → d ≢ NO_DISTANCE → HopsIs g x y k → NextIs g x y z → Some (record { dist = d; hops = k; next = z }) ≡ f x y
 some_here g f x y d k z h p q apart dist there hops next = at dist.0 dist.1 dist.2
   where
@@ -87,6 +91,7 @@ table_is g = record {
 
 -- ---- what a version states, and its text
 
+-- what a version states, with its text in the tables that are given
 pub record IsStatedText (v : Seen) : Type 0 where
   pub stated : Stated
   pub is : IsStatedOf v stated
@@ -107,9 +112,11 @@ edges_are g graph = map.same_map pairs_total exact_pair (map_of g.vertices (weig
 table_lines : {V : Type 0} (word : List ℕ) (line : (ℕ × ℕ) × V → List ℕ) (m : map.FinMap pair_cmp V) (items : List ((ℕ × ℕ) × V)) → map.entries m ≡ items → joined (named word (map.len m) ∷ each line (map.entries m)) ≡ table_text word line items
 table_lines word line m items e = ap (λ k. joined (named word k ∷ each line (map.entries m))) (map.len-entries m) ∙ ap (λ es. joined (named word (length es) ∷ each line es)) e
 
+-- what a version states
 abbrev pub value_of : Seen → Stated
 value_of v = record { number = v.number; graph = v.graph; entries = map_of v.graph.vertices (entry_table v.graph) }
 
+-- .. is stated of it
 pub value_is : (v : Seen) → IsStatedOf v (value_of v)
 value_is v =
     let g = v.graph in
@@ -127,6 +134,7 @@ value_is v =
     none_some : (e : Entry) → None ≡ Some e → ⊥
     none_some e h = cc
 
+-- each version of a graph states a value that has its text
 pub stated_text : (v : Seen) → IsGraph v.graph → IsStatedText v
 stated_text v graph =
     let g = v.graph in

@@ -57,14 +57,16 @@ IsPairWithin n numbers result = option_map pair_item result ≡ if_fits (pair_fi
 -- what reading a table leaves: the map of its items in place of the empty one, or the first fault
 abbrev pub ReadsEdges : Stated → Stated → Result Lines CertError → Rest → Type 0
 ReadsEdges old new (Ok r) rest =
-    table_of (codes "edges") edge_in (edge_fits old.graph.vertices) old.graph.vertices rest ≡ Ok (new.graph.edges, rest_of r)
+    table_of (codes "edges") edge_in (edge_fits old.graph.vertices) old.graph.vertices rest
+    ≡ Ok (new.graph.edges, rest_of r)
     × (new ≡ record old { graph = record old.graph { edges = new.graph.edges } })
 ReadsEdges old new (Err e) rest =
     table_of (codes "edges") edge_in (edge_fits old.graph.vertices) old.graph.vertices rest ≡ Err e
 
 abbrev pub ReadsPairs : Stated → Stated → Result Lines CertError → Rest → Type 0
 ReadsPairs old new (Ok r) rest =
-    table_of (codes "pairs") pair_in (pair_fits old.graph.vertices) old.graph.vertices rest ≡ Ok (new.entries, rest_of r)
+    table_of (codes "pairs") pair_in (pair_fits old.graph.vertices) old.graph.vertices rest
+    ≡ Ok (new.entries, rest_of r)
     × (new ≡ record old { entries = new.entries })
 ReadsPairs old new (Err e) rest =
     table_of (codes "pairs") pair_in (pair_fits old.graph.vertices) old.graph.vertices rest ≡ Err e

@@ -37,7 +37,8 @@ named_line word r = line_at r >>= (λ l. or_shape (number_behind word l.0) r.num
 
 abbrev pub vertices_line : Rest → Result (ℕ × Rest) CertError
 vertices_line r =
-    named_line (codes "vertices") r >>= (λ n. if nat_le 1 n.0 && nat_le n.0 MOST_VERTICES then Ok n else Err (Range r.number))
+    named_line (codes "vertices") r >>= (λ n. if nat_le 1 n.0 && nat_le n.0 MOST_VERTICES then Ok n
+    else Err (Range r.number))
 
 -- a number of lines to come, which is at most so many
 abbrev pub count_line : List ℕ → ℕ → Rest → Result (ℕ × Rest) CertError
@@ -88,7 +89,8 @@ item_line item_in fits before r =
 
 -- so many lines, whose items are put into the map
 abbrev pub items_onto :
-    {V : Type 0} → (List ℕ → Option ((ℕ × ℕ) × V)) → ((ℕ × ℕ) × V → Bool) → map.FinMap pair_cmp V → ℕ → Option (ℕ × ℕ) → Rest
+    {V : Type 0} → (List ℕ → Option ((ℕ × ℕ) × V)) → ((ℕ × ℕ) × V → Bool) → map.FinMap pair_cmp V → ℕ → Option (ℕ × ℕ)
+    → Rest
     → Result (map.FinMap pair_cmp V × Rest) CertError
 items_onto item_in fits m zero before r = Ok (m, r)
 items_onto item_in fits m (suc k) before r =

@@ -1,4 +1,4 @@
--- The map of a table: what it says at each pair of numbers below n, row by row.
+-- The map of a table: what it says at each pair of numbers below n, row by row. No public clause cites this module.
 use Rattle.std.specs.Prelude.{ℕ, zero, suc, List, [], ◌∷◌, ◌++◌, slice_index_or, Option, Some, None}
 use Rattle.std.specs.FinMap as map
 use Rattle.apsp_model.specs.Graph.{pair_cmp}

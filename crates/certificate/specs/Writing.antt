@@ -1,4 +1,4 @@
--- The tables of a version, as their text.
+-- The tables of a version, as their text. No public clause cites this module.
 use Rattle.std.specs.Prelude.{◌≡◌, ◌≢◌, ℕ, ◌<◌, List, ◌∷◌, map as each, length, Option, None}
 use Rattle.apsp_model.specs.Graph.{Graph, weight_at}
 use Rattle.apsp_model.specs.Stated.{Entry}

@@ -45,7 +45,11 @@ fn body_of(alloc: Global, head: Head<'_>) -> Result<Stated, CertError>
     requires count { IsVertexCount head.vertices }
     requires digits { head.number < 10 ^ MOST_DIGITS }
     ensures { GivesOrMemory (λ s. s) result
-        (body_of (record { number = head.entry.number; vertices = head.entry.vertices; rest = rest_of head.entry.rest })) }
+        (body_of (record {
+          number = head.entry.number;
+          vertices = head.entry.vertices;
+          rest = rest_of head.entry.rest;
+        })) }
 {
     let mut stated = Stated::new(alloc, head.number, head.vertices)?;
     let rest = read_edges(&mut stated, head.rest)?;

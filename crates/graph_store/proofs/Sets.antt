@@ -1,12 +1,12 @@
--- What the calls that set one edge of a star owe.
+-- One edge of a star is set: for `set_out`, `set_in` and `put_out` of `Star`.
 use Rattle.std.specs.Prelude.{◌≡◌, ◌≢◌, ℕ, ◌<◌, ◌==◌, ◌||◌, nat_lt, nat_le, is_some, Bool, true, false, if◌then◌else◌, List, length, slice_set, Option, Some, None, Result, Ok, Err, refl}
 use Rattle.std.proofs.Common.{sym, ◌∙◌, ap, subst, inl, inr, arith, get_or-set_other, length-set}
 use Rattle.std.proofs.lemmas.Bool.{cases_lt}
 use Rattle.std.proofs.lemmas.Bool.Decides.{nat_tests}
 use Rattle.apsp_model.specs.declared.TheConstants.{LEAST_WEIGHT, MOST_WEIGHT}
 use Rattle.apsp_model.specs.Star.{Star, IsStar}
-use Rattle.graph_store.specs.declared.StarError.{StarError}
-use Rattle.graph_store.specs.declared.StarError.TheVariants.{Vertex, SelfEdge, Repeat, Weight}
+use Rattle.graph_store.specs.declared.star.StarError.{StarError}
+use Rattle.graph_store.specs.declared.star.StarError.TheVariants.{Vertex, SelfEdge, Repeat, Weight}
 use Rattle.graph_store.specs.Rows.{cell_at, star_of_rows, IsStarRows}
 use Rattle.graph_store.specs.Edges.{IsWeight, first_refusal, refusal_of, ok_unless, with_maybe_edge}
 use Rattle.graph_store.proofs.StarRows.{out_weight-rows, in_weight-rows, with_out_edge, with_in_edge, is_star-with}

@@ -1,4 +1,4 @@
--- Stars as two rows of cells.
+-- Stars as two rows of cells: for the calls of `Star`.
 use Rattle.std.specs.Prelude.{◌≡◌, ◌≢◌, ℕ, ◌<◌, ◌==◌, ◌&&◌, ◌⊎◌, Bool, true, false, cond, if◌then◌else◌, List, length, replicate, slice_set, Option, Some, None, refl}
 use Rattle.std.specs.FinMap as map
 use Rattle.std.proofs.Common.{sym, ◌∙◌, ap, subst, inl, inr, arith, get_or-set_other, get_or-set_same}

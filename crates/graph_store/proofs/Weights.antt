@@ -1,4 +1,4 @@
--- A graph in which the edge of one pair is set or taken away, and its cells.
+-- A graph in which the edge of one pair is set or taken away, and its cells: for `Graph::put_weight`.
 use Rattle.std.specs.Prelude.{◌≡◌, ℕ, ◌+◌, ◌*◌, ◌<◌, ◌==◌, ◌&&◌, Bool, true, false, cond, List, slice_set, Option, Some, None, refl}
 use Rattle.std.specs.FinMap as map
 use Rattle.std.proofs.Common.{sym, ◌∙◌, ap, subst, inl, inr, arith, get_or-set_other, get_or-set_same, length-set}

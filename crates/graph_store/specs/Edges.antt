@@ -4,8 +4,8 @@ use Rattle.std.specs.FinMap as map
 use Rattle.apsp_model.specs.declared.TheConstants.{LEAST_WEIGHT, MOST_WEIGHT}
 use Rattle.apsp_model.specs.Graph.{Graph}
 use Rattle.apsp_model.specs.Star.{Star}
-use Rattle.graph_store.specs.declared.StarError.{StarError}
-use Rattle.graph_store.specs.declared.StarError.TheVariants.{Vertex, SelfEdge, Repeat, Weight}
+use Rattle.graph_store.specs.declared.star.StarError.{StarError}
+use Rattle.graph_store.specs.declared.star.StarError.TheVariants.{Vertex, SelfEdge, Repeat, Weight}
 
 -- an edge may have the weight w
 pub record IsWeight (w : ℕ) : Type 0 where

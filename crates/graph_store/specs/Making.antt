@@ -3,10 +3,10 @@ use Rattle.std.specs.Prelude.{ℕ, ◌<◌, ◌≤◌, Result, Ok, Err}
 use Rattle.std.specs.FinMap as map
 use Rattle.apsp_model.specs.declared.TheConstants.{MOST_VERTICES}
 use Rattle.apsp_model.specs.Star.{Star}
-use Rattle.graph_store.specs.declared.MakeError.{MakeError}
-use Rattle.graph_store.specs.declared.MakeError.TheVariants.{Vertices, Memory as Make_memory}
-use Rattle.graph_store.specs.declared.StarError.{StarError}
-use Rattle.graph_store.specs.declared.StarError.TheVariants.{Vertex, SelfEdge, Repeat, Weight, Memory as Star_memory}
+use Rattle.graph_store.specs.declared.graph.MakeError.{MakeError}
+use Rattle.graph_store.specs.declared.graph.MakeError.TheVariants.{Vertices, Memory as Make_memory}
+use Rattle.graph_store.specs.declared.star.StarError.{StarError}
+use Rattle.graph_store.specs.declared.star.StarError.TheVariants.{Vertex, SelfEdge, Repeat, Weight, Memory as Star_memory}
 
 -- a graph may have n vertices
 pub record IsVertexCount (n : ℕ) : Type 0 where

@@ -1,6 +1,7 @@
 -- Plans: a graph with its number, and the stars of the updates behind it, in order.
 use Rattle.std.specs.Prelude.{◌≡◌, ℕ, ◌+◌, ◌-◌, ◌^◌, ◌≤◌, List, [], ◌∷◌, ◌++◌, All, length, take, refl}
 use Rattle.std.specs.Coded.{Coded, code_by, coded×, coded_ℕ, coded_list}
+use Rattle.apsp_model.specs.declared.TheConstants.{MOST_UPDATES}
 use Rattle.apsp_model.specs.Graph.{Graph, IsGraph, graph_code}
 use Rattle.apsp_model.specs.Star.{Star, IsStar, star_of, star_code}
 
@@ -44,4 +45,4 @@ pub record IsPlan (p : Plan) : Type 0 where
   pub graph : IsGraph p.start
   pub stars : All IsStar p.stars
   pub vertices : All (λ s. s.vertices ≡ p.start.vertices) p.stars
-  pub few : hi_of p ≤ 2 ^ 40
+  pub few : hi_of p ≤ MOST_UPDATES

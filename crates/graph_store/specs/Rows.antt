@@ -1,4 +1,5 @@
 -- What rows of cells say: row u has the weights of the edges from u, one cell for each vertex.
+-- No public clause cites this module.
 use Rattle.std.specs.Prelude.{◌≡◌, ℕ, ◌+◌, ◌*◌, ◌<◌, ◌==◌, ◌&&◌, nat_lt, if◌then◌else◌, List, length, slice_index_or, Option, None}
 use Rattle.apsp_model.specs.Graph.{Graph, IsGraph}
 use Rattle.apsp_model.specs.Star.{Star, IsStar}
@@ -12,7 +13,13 @@ graph_of_rows n cells = record { vertices = n; edges = map_of n (λ u v. cell_at
 
 -- the star of v, from the row of its out edges and that of its in edges
 abbrev pub star_of_rows : ℕ → ℕ → List (Option ℕ) → List (Option ℕ) → Star
-star_of_rows n v out into = record { vertices = n; vertex = v; edges = map_of n (λ a b. if b == v then cell_at into a else (if a == v then cell_at out b else None)) }
+star_of_rows n v out into =
+    record {
+      vertices = n;
+      vertex = v;
+      edges = map_of n (λ a b. if b == v then cell_at into a
+          else (if a == v then cell_at out b else None));
+    }
 
 pub record IsGraphRows (n : ℕ) (cells : List (Option ℕ)) : Type 0 where
   pub size : length cells ≡ n * n
@@ -27,12 +34,14 @@ pub record IsStarRows (n v : ℕ) (out into : List (Option ℕ)) : Type 0 where
 -- row v is that row, and all other rows are as they were
 pub record HasRow (n v : ℕ) (row old new : List (Option ℕ)) : Type 0 where
   pub size : length new ≡ length old
-  pub cells : (a b : ℕ) → a < n → b < n → cell_at new (a * n + b) ≡ (if a == v then cell_at row b else cell_at old (a * n + b))
+  pub cells : (a b : ℕ) → a < n → b < n → cell_at new (a * n + b)
+      ≡ (if a == v then cell_at row b else cell_at old (a * n + b))
 
 -- the first cells of column v are those of the column, and all others are as they were
 pub record HasColumn (n v count : ℕ) (column old new : List (Option ℕ)) : Type 0 where
   pub size : length new ≡ length old
-  pub cells : (a b : ℕ) → a < n → b < n → cell_at new (a * n + b) ≡ (if b == v && nat_lt a count then cell_at column a else cell_at old (a * n + b))
+  pub cells : (a b : ℕ) → a < n → b < n → cell_at new (a * n + b)
+      ≡ (if b == v && nat_lt a count then cell_at column a else cell_at old (a * n + b))
 
 -- row v was written, and then column v
 pub record HasStar (n v : ℕ) (row column old new : List (Option ℕ)) : Type 0 where

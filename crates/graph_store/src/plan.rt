@@ -1,6 +1,7 @@
 //! The updates that are planned behind a graph.
 
 ghost use Rattle.std.specs.Prelude.{◌≡◌, ◌<◌, ◌≤◌, ◌-◌, ◌^◌, [], Some, IfOk, OnOk, OnErr, slice_get};
+ghost use Rattle.apsp_model.specs.declared.TheConstants.{MOST_UPDATES};
 ghost use Rattle.apsp_model.specs.Star.{IsStar};
 ghost use Rattle.graph_store.specs.Plan.{IsPlan, hi_of, with_star};
 
@@ -33,7 +34,7 @@ impl Model for Plan {
 impl Plan {
     /// No updates behind a copy of this graph, whose number is `lo`. It copies n² cells.
     pub fn new(alloc: Global, start: &Graph, lo: u64) -> Result<Plan, Memory>
-        requires { lo < 2 ^ 40 }
+        requires { lo < MOST_UPDATES }
         ensures plan { IfOk result (λ p. p ≡ record { start = start.now; lo = lo; stars = [] }) }
         ensures is_plan { IfOk result IsPlan }
     {
@@ -49,7 +50,7 @@ impl Plan {
     /// One update more, behind the others. Want of memory leaves the plan as it was.
     pub fn add(&mut self, star: Star) -> Result<(), Memory>
         requires same { star.vertices ≡ self.old.start.vertices }
-        requires few { hi_of self.old < 2 ^ 40 }
+        requires few { hi_of self.old < MOST_UPDATES }
         ensures added { OnOk result (self.new ≡ with_star self.old star) }
         ensures unchanged { OnErr result (self.new ≡ self.old) }
         ensures is_plan { IsPlan self.new }

@@ -1,4 +1,4 @@
--- Lines that are cut piece by piece.
+-- Lines that are cut piece by piece: for `LineCutter::feed`, its `keep`, and `line_part`.
 use Rattle.std.specs.Prelude.{◌≡◌, ℕ, zero, suc, ◌+◌, ◌-◌, ◌<◌, ◌≤◌, min, Bool, true, false, not, cond, ◌||◌, nat_lt, if◌then◌else◌, List, [], ◌∷◌, ◌++◌, length, take, slice_index, refl}
 use Rattle.std.specs.List.{list_any, position_or_len}
 use Rattle.std.proofs.Common.{sym, ◌∙◌, ap, subst, arith, length-append}
@@ -19,6 +19,7 @@ pub record IsNewlineAt (piece : List ℕ) (k : ℕ) : Type 0 where
   pub some : has_newline piece ≡ true
   pub place : position_or_len is_newline piece ≡ k
 
+-- the first newline of a piece stands where the search stopped
 pub newline_at : (piece : List ℕ) (k : ℕ) → k < length piece → ((j : ℕ) → j < k → is_newline (slice_index piece j) ≡ true → ⊥) → is_newline (slice_index piece k) ≡ true → IsNewlineAt piece k
 newline_at [] k l before here = absurd (omega arith)
 newline_at (b ∷ bs) zero l before here = at (is_newline b) refl here
@@ -39,6 +40,7 @@ pub record HasNoNewline (piece : List ℕ) : Type 0 where
   pub none : has_newline piece ≡ false
   pub place : position_or_len is_newline piece ≡ length piece
 
+-- a search to the end that found none: the piece has no newline
 pub no_newline : (piece : List ℕ) → ((j : ℕ) → j < length piece → is_newline (slice_index piece j) ≡ true → ⊥) → HasNoNewline piece
 no_newline [] nowhere = record { none = refl; place = refl }
 no_newline (b ∷ bs) nowhere = at (is_newline b) refl (no_newline bs (λ j p. nowhere (suc j) (omega (arith, p))))
@@ -55,6 +57,7 @@ length-line_part piece = length-prefix_len (λ b. not (is_newline b)) piece
 
 -- ---- what is kept
 
+-- what is kept, with as many more bytes as there is room for, is the front of both
 pub kept_within : (kept bytes : List ℕ) (count : ℕ) → length kept ≤ MOST_LINE_BYTES → count ≡ min (MOST_LINE_BYTES - length kept) (length bytes) → kept ++ take count bytes ≡ take MOST_LINE_BYTES (kept ++ bytes)
 kept_within kept bytes count size is =
     let whole : length kept + (MOST_LINE_BYTES - length kept) ≡ MOST_LINE_BYTES = omega (arith, size) in
@@ -84,6 +87,7 @@ take-take_append (suc n) (x ∷ xs) ys = ap (λ r. x ∷ r) (take-take_append n 
 pub stands_for_none : StandsFor (record { kept = []; too_long = false; whole = false }) []
 stands_for_none = record { kept = refl; too_long = refl }
 
+-- a cutter that stands for the front of a line stands for more of it after more bytes
 pub stands_for_more : (old new : Cutting) (content bytes : List ℕ) → StandsFor old content → new.kept ≡ take MOST_LINE_BYTES (old.kept ++ bytes) → new.too_long ≡ (old.too_long || nat_lt MOST_LINE_BYTES (length old.kept + length bytes)) → StandsFor new (content ++ bytes)
 stands_for_more old new content bytes h kept too_long = record {
   kept = kept ∙ ap (λ k. take MOST_LINE_BYTES (k ++ bytes)) h.kept ∙ take-take_append MOST_LINE_BYTES content bytes;
@@ -246,6 +250,7 @@ part_is_open (b ∷ bs) = at (is_newline b) refl (part_is_open bs)
         ∙ ap (λ c. c || list_any is_newline (line_part bs)) e
         ∙ h
 
+-- the part up to the first newline, or the whole piece, is what is used of it
 pub cuts_lines : (piece input : List ℕ) (whole : Bool) (used : ℕ) → whole ≡ has_newline piece → used ≡ length (line_part piece) + (if whole then 1 else 0) → CutsLines whole used input piece
 cuts_lines piece input true used w u =
     let taken : take used piece ≡ line_part piece ++ 10 ∷ [] = ap (λ n. take n piece) (u ∙ ap (λ n. n + 1) (length-line_part piece)) ∙ through_newline piece (sym w) in

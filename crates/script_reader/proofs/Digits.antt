@@ -1,4 +1,4 @@
--- The value of digits, as far as they are read.
+-- The value of digits, as far as they are read: for `number_of` and its loop `value_of`.
 use Rattle.std.specs.Prelude.{◌≡◌, ℕ, zero, suc, ◌+◌, ◌-◌, ◌*◌, ◌^◌, ◌<◌, ◌≤◌, ◌&&◌, ◌||◌, ◌==◌, not, Some, None, nat_le, Bool, true, false, cond, List, [], ◌∷◌, length, take, slice_index, refl}
 use Rattle.std.specs.Char.{digit_value}
 use Rattle.std.specs.List.{list_all}
@@ -46,6 +46,7 @@ pub record IsNextDigit (w : List ℕ) (i value : ℕ) : Type 0 where
   pub small : value * 10 + (slice_index w i - 48) < 2 ^ 64
   pub next : value * 10 + (slice_index w i - 48) ≡ digits_value 10 (take (i + 1) w)
 
+-- behind the value of the first i of few digits stands the next one
 pub next_digit : (w : List ℕ) (i value : ℕ) → AreFewDigits w → i < length w → value ≡ digits_value 10 (take i w) → IsNextDigit w i value
 next_digit w i value few below is =
     let digit : IsDigit (slice_index w i) = digit_from_value (slice_index w i) (digit_at w i few.digits below) in
@@ -58,6 +59,7 @@ next_digit w i value few below is =
       next = omega (arith, digits_value_more 10 w i below, is, digit.value);
     }
 
+-- a number has few digits
 pub few_digits : (w : List ℕ) → is_number w ≡ true → AreFewDigits w
 few_digits [] h = cc
 few_digits (b ∷ bs) h =
@@ -70,10 +72,12 @@ few_digits (b ∷ bs) h =
     within : nat_le (length (b ∷ bs)) MOST_DIGITS ≡ true → length (b ∷ bs) ≤ MOST_DIGITS
     within e = grind (arith, nat_tests)
 
+-- where all digits were read, their value is the number of the word
 pub number_is : (w : List ℕ) (value : ℕ) → is_number w ≡ true → value ≡ digits_value 10 w → Some value ≡ number_of w
 unfolding number_of
 number_is w value test e = ap (λ n. Some n) e ∙ ap (λ c. cond c (Some (digits_value 10 w)) None) (sym test)
 
+-- a word that is no number has none
 pub no_number : (w : List ℕ) → is_number w ≡ false → None ≡ number_of w
 unfolding number_of
 no_number w test = ap (λ c. cond c (Some (digits_value 10 w)) None) (sym test)

@@ -1,4 +1,4 @@
--- The numbers of an accepted line are in range.
+-- The numbers of an accepted line are in range: for `read_line`, and for the session above.
 use Rattle.std.specs.Prelude.{◌≡◌, ◌≢◌, ℕ, ◌+◌, ◌<◌, ◌≤◌, Bool, true, false, not, ◌==◌, ◌&&◌, ◌||◌, nat_lt, nat_le, is_some, if◌then◌else◌, List, [], ◌∷◌, length, All, Option, Some, None, Result, Ok, Err, IfOk, refl}
 use Rattle.std.specs.List.{before_first, after_first}
 use Rattle.std.specs.FinMap as map

@@ -1,4 +1,4 @@
--- Loops over the words that are left, a word at a time.
+-- Loops over the words that are left, a word at a time: for `first_misfit`.
 use Rattle.std.specs.Prelude.{◌≡◌, ℕ, ◌+◌, Bool, true, false, not, ◌||◌, ◌==◌, if◌then◌else◌, List, [], ◌∷◌, ◌++◌, count_by, Option, Some, None, refl}
 use Rattle.std.specs.List.{list_any}
 use Rattle.std.proofs.Common.{sym, ◌∙◌, ap}
@@ -42,9 +42,11 @@ misfit_from_is before place (w ∷ ws) =
     ap (λ o. if is_misfit_after (has_group Out before) (has_group In before) w then Some place else o) rest
     ∙ ap (λ b. if b then Some place else first_misfit (before ++ w ∷ []) (place + 1) ws) (sym (same_misfit before w))
 
+-- before the first word the search for a misfit is that of all words
 pub misfit_none : (place : ℕ) (ws : List (List ℕ)) → misfit_from false false place ws ≡ first_misfit [] place ws
 misfit_none place ws = misfit_from_is [] place ws
 
+-- .. and behind a word that fits it is that of the words that are left
 pub misfit_more : (o i : Bool) (place : ℕ) (ws : List (List ℕ)) (w : List ℕ) (rest : List (List ℕ)) (next : ℕ) → ws ≡ w ∷ rest → next ≡ place + 1 → is_misfit_after o i w ≡ false → misfit_from (o || is_out w) (i || is_in w) next rest ≡ misfit_from o i place ws
 misfit_more o i place ws w rest next e n fits =
     ap (λ k. misfit_from (o || is_out w) (i || is_in w) k rest) n

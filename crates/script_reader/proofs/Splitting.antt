@@ -1,4 +1,4 @@
--- The first word of a line, and those behind it.
+-- The first word of a line, and those behind it: for the next word of an iterator.
 use Rattle.std.specs.Prelude.{◌≡◌, ◌≢◌, ℕ, suc, ◌+◌, Bool, true, false, not, cond, List, [], ◌∷◌, length, take, drop, filter, refl}
 use Rattle.std.specs.List.{prefix_len, position_or_len, slice_split, onto_first}
 use Rattle.std.proofs.Common.{sym, ◌∙◌, ap, subst, arith}
@@ -74,6 +74,7 @@ no_word (b ∷ bs) none = at (is_separator b) refl none (no_word bs)
 
 -- the same, of a word that was cut off
 module _ (bs t front back : List ℕ) (k : ℕ) (behind : t ≡ behind_separators bs) (len : k ≡ position_or_len is_separator t) (first : front ≡ take k t) where
+  -- where the word that was cut off is empty, no word is left
   pub no_word_cut : length front ≡ 0 → words_of bs ≡ []
   no_word_cut none =
       let empty : front ≡ [] = empty_of front none in
@@ -83,6 +84,7 @@ module _ (bs t front back : List ℕ) (k : ℕ) (behind : t ≡ behind_separator
       empty_of [] e = refl
       empty_of (x ∷ xs) e = absurd (omega arith)
 
+  -- .. and else it is the first word, in front of those of what stands behind it
   pub word_cut : back ≡ drop k t → length front ≢ 0 → words_of bs ≡ front ∷ words_of back
   word_cut rest some =
       let is_front : front ≡ take (position_or_len is_separator (behind_separators bs)) (behind_separators bs) = first ∙ ap (λ n. take n t) len ∙ ap (λ u. take (position_or_len is_separator u) u) behind in

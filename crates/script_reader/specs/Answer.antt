@@ -5,8 +5,8 @@ use Rattle.std.specs.declared.vec.Vec.{Vec}
 use Rattle.apsp_model.specs.Star.{Star as Star_model, IsStar}
 use Rattle.graph_store.specs.Making.{IsVertexCount}
 use Rattle.graph_store.specs.Edges.{IsWeight}
-use Rattle.graph_store.specs.declared.StarError.{StarError}
-use Rattle.graph_store.specs.declared.StarError.TheVariants.{Vertex, SelfEdge, Repeat, Weight, Memory as Star_memory}
+use Rattle.graph_store.specs.declared.star.StarError.{StarError}
+use Rattle.graph_store.specs.declared.star.StarError.TheVariants.{Vertex, SelfEdge, Repeat, Weight, Memory as Star_memory}
 use Rattle.script_reader.specs.declared.code.TheConstants.{SHAPE, VERTEX, SELF_EDGE, REPEAT, WEIGHT}
 use Rattle.script_reader.specs.declared.Context.{Context}
 use Rattle.script_reader.specs.declared.LineError.{LineError}
@@ -46,7 +46,8 @@ star_refused Star_memory place = Memory
 
 -- the words that are left are the given ones, with their numbers, or there are fewer or more of them
 abbrev pub IsMiscount : Words → ℕ → LineError → Type 0
-IsMiscount words count (Refused code place) = (length (words_left words) ≢ count) × (code ≡ SHAPE) × (place ≡ min (length (words_left words)) count + words.place)
+IsMiscount words count (Refused code place) =
+    (length (words_left words) ≢ count) × (code ≡ SHAPE) × (place ≡ min (length (words_left words)) count + words.place)
 IsMiscount words count Memory = ⊥
 
 abbrev pub IsOne : Words → Result Word LineError → Type 0
@@ -54,16 +55,19 @@ IsOne words (Ok a) = (words_left words ≡ a.bytes.now ∷ []) × (a.place ≡ w
 IsOne words (Err e) = IsMiscount words 1 e
 
 abbrev pub AreTwo : Words → Result (Word × Word) LineError → Type 0
-AreTwo words (Ok p) = (words_left words ≡ p.0.bytes.now ∷ p.1.bytes.now ∷ []) × (p.0.place ≡ words.place) × (p.1.place ≡ words.place + 1)
+AreTwo words (Ok p) =
+    (words_left words ≡ p.0.bytes.now ∷ p.1.bytes.now ∷ []) × (p.0.place ≡ words.place) × (p.1.place ≡ words.place + 1)
 AreTwo words (Err e) = IsMiscount words 2 e
 
 abbrev pub AreThree : Words → Result (Word × Word × Word) LineError → Type 0
-AreThree words (Ok p) = (words_left words ≡ p.0.bytes.now ∷ p.1.bytes.now ∷ p.2.bytes.now ∷ []) × (p.0.place ≡ words.place) × (p.1.place ≡ words.place + 1) × (p.2.place ≡ words.place + 2)
+AreThree words (Ok p) = (words_left words ≡ p.0.bytes.now ∷ p.1.bytes.now ∷ p.2.bytes.now ∷ [])
+    × (p.0.place ≡ words.place) × (p.1.place ≡ words.place + 1) × (p.2.place ≡ words.place + 2)
 AreThree words (Err e) = IsMiscount words 3 e
 
 -- a word that has to stand
 abbrev pub IsRequired : Words → Result Word LineError → Words → Type 0
-IsRequired old (Ok word) new = (words_left old ≡ word.bytes.now ∷ words_left new) × (word.place ≡ old.place) × (new.place ≡ old.place + 1)
+IsRequired old (Ok word) new =
+    (words_left old ≡ word.bytes.now ∷ words_left new) × (word.place ≡ old.place) × (new.place ≡ old.place + 1)
 IsRequired old (Err (Refused code place)) new = (words_left old ≡ []) × (code ≡ SHAPE) × (place ≡ old.place)
 IsRequired old (Err Memory) new = ⊥
 

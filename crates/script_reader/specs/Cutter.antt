@@ -25,8 +25,10 @@ has_newline piece = list_any is_newline piece
 -- The lines of an input with so many bytes of a piece behind it: one line more where the first newline
 -- of the piece is taken, and the same lines with a longer rest otherwise.
 abbrev pub CutsLines : Bool → ℕ → List ℕ → List ℕ → Type 0
-CutsLines true used input piece = (whole_lines (input ++ take used piece) ≡ whole_lines input ++ (open_rest input ++ line_part piece) ∷ []) × (open_rest (input ++ take used piece) ≡ [])
-CutsLines false used input piece = (whole_lines (input ++ take used piece) ≡ whole_lines input) × (open_rest (input ++ take used piece) ≡ open_rest input ++ line_part piece)
+CutsLines true used input piece = (whole_lines (input ++ take used piece)
+    ≡ whole_lines input ++ (open_rest input ++ line_part piece) ∷ []) × (open_rest (input ++ take used piece) ≡ [])
+CutsLines false used input piece = (whole_lines (input ++ take used piece) ≡ whole_lines input)
+    × (open_rest (input ++ take used piece) ≡ open_rest input ++ line_part piece)
 
 pub record IsCutting (kept : List ℕ) (capacity : ℕ) (too_long : Bool) : Type 0 where
   pub size : length kept ≤ MOST_LINE_BYTES

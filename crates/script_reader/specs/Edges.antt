@@ -50,7 +50,8 @@ is_misfit None before w = not (has_group Out before || has_group In before) || n
 -- the place of the first word that cannot stand
 abbrev pub first_misfit : List (List ℕ) → ℕ → List (List ℕ) → Option ℕ
 first_misfit before place [] = None
-first_misfit before place (w ∷ ws) = if is_misfit (group_of w) before w then Some place else first_misfit (before ++ w ∷ []) (place + 1) ws
+first_misfit before place (w ∷ ws) =
+    if is_misfit (group_of w) before w then Some place else first_misfit (before ++ w ∷ []) (place + 1) ws
 
 -- the edge between the star's vertex and u
 abbrev pub edge_of : Star → Group → ℕ → ℕ × ℕ

@@ -58,7 +58,8 @@ abbrev pub misshapen : {A : Type 0} → ℕ → List (List ℕ) → Result A Ref
 misshapen count arguments = refused SHAPE (min (length arguments) count + 2)
 
 abbrev pub vertices_line : List (List ℕ) → Result Line Refusal
-vertices_line (w ∷ []) = number_at 2 w >>= (λ n. if nat_le 1 n && nat_le n MOST_VERTICES then Ok (Vertices n) else refused VERTEX 2)
+vertices_line (w ∷ []) =
+    number_at 2 w >>= (λ n. if nat_le 1 n && nat_le n MOST_VERTICES then Ok (Vertices n) else refused VERTEX 2)
 vertices_line arguments = misshapen 1 arguments
 
 -- the star of the first word with the items of the others, unless one of them is a misfit
@@ -164,4 +165,5 @@ line_of_words context (w ∷ ws) = if is_comment w then Ok Nothing else command_
 
 -- the line that the bytes are, or why and where they are refused
 abbrev pub line_of : Context → List ℕ → Result Line Refusal
-line_of context bytes = if nat_lt MOST_LINE_BYTES (length bytes) then refused TOO_LONG 0 else line_of_words context (words_of bytes)
+line_of context bytes =
+    if nat_lt MOST_LINE_BYTES (length bytes) then refused TOO_LONG 0 else line_of_words context (words_of bytes)

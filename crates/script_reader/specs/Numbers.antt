@@ -10,7 +10,8 @@ is_digit b = nat_le 48 b && nat_le b 57
 -- `0` alone begins with a zero
 abbrev pub is_number : List ℕ → Bool
 is_number [] = false
-is_number (b ∷ bs) = nat_le (length (b ∷ bs)) MOST_DIGITS && ((length (b ∷ bs) == 1 || not (b == 48)) && list_all is_digit (b ∷ bs))
+is_number (b ∷ bs) =
+    nat_le (length (b ∷ bs)) MOST_DIGITS && ((length (b ∷ bs) == 1 || not (b == 48)) && list_all is_digit (b ∷ bs))
 
 -- the number that a word is
 unfoldable pub number_of : List ℕ → Option ℕ

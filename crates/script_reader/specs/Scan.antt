@@ -12,8 +12,10 @@ words_left words = words_of words.rest.now
 -- the first of the words that are left is given with its number, and none where none is left
 abbrev pub GivesWord : Words → Option Word → Words → Type 0
 GivesWord old None new = words_left old ≡ []
-GivesWord old (Some word) new = (words_left old ≡ word.bytes.now ∷ words_left new) × (word.place ≡ old.place) × (new.place ≡ old.place + 1)
+GivesWord old (Some word) new =
+    (words_left old ≡ word.bytes.now ∷ words_left new) × (word.place ≡ old.place) × (new.place ≡ old.place + 1)
 
 -- whether a word cannot stand where the words `out` and `in` stood before it, or did not
 abbrev pub is_misfit_after : Bool → Bool → List ℕ → Bool
-is_misfit_after has_out has_in w = if is_out w then has_out else (if is_in w then has_in else not (has_out || has_in) || not (count_by is_colon w == 1))
+is_misfit_after has_out has_in w = if is_out w then has_out
+    else (if is_in w then has_in else not (has_out || has_in) || not (count_by is_colon w == 1))

@@ -58,7 +58,8 @@ impl LineCutter {
         ensures whole { result.whole ≡ has_newline piece.now }
         ensures used { result.used ≡ length (line_part piece.now) + (if result.whole then 1 else 0) }
         ensures within { result.used ≤ length piece.now }
-        ensures content { (content : List ℕ) → StandsFor self.old content → StandsFor self.new (content ++ line_part piece.now) }
+        ensures content { (content : List ℕ) → StandsFor self.old content
+            → StandsFor self.new (content ++ line_part piece.now) }
         ensures state { self.new.whole ≡ result.whole }
         ensures lines { (input : List ℕ) → CutsLines result.whole result.used input piece.now }
     {
@@ -105,7 +106,8 @@ impl LineCutter {
     /// Keeps as many of the bytes as there is room for.
     fn keep(&mut self, bytes: &[u8])
         ensures kept { self.new.kept ≡ take MOST_LINE_BYTES (self.old.kept ++ bytes.now) }
-        ensures too_long { self.new.too_long ≡ (self.old.too_long || nat_lt MOST_LINE_BYTES (length self.old.kept + length bytes.now)) }
+        ensures too_long { self.new.too_long
+            ≡ (self.old.too_long || nat_lt MOST_LINE_BYTES (length self.old.kept + length bytes.now)) }
         ensures whole { self.new.whole ≡ self.old.whole }
     {
         let room = MOST_LINE_BYTES - self.kept.len();

@@ -39,7 +39,8 @@ fn is_misfit(has_out: bool, has_in: bool, word: &[u8]) -> bool
 
 /// Adds the items of the groups to the star.
 pub fn set_groups(star: &mut Star, words: Words<'_>) -> Result<(), LineError>
-    ensures { IsSetAnswer (star_with_groups star.old Group.Out words.entry.place (words_left words.entry)) result star.new }
+    ensures { IsSetAnswer
+        (star_with_groups star.old Group.Out words.entry.place (words_left words.entry)) result star.new }
 {
     let mut group = Group::Out;
     for word in words {
