@@ -51,6 +51,7 @@ impl Lists {
     }
 
     /// Gives an id four empty lists.
+    #[inline(always)]
     pub fn enter(&mut self, id: PathId) -> Result<(), Memory>
         requires { IsNone (map.get self.old id) }
         ensures ok { OnOk result (self.new ≡ map.insert self.old id no_sides) }
@@ -64,6 +65,7 @@ impl Lists {
 
     /// Puts an id behind the right extensions of l and the left extensions of r. Where a list is full
     /// its ids move into a block of twice the room.
+    #[inline(always)]
     pub fn add(&mut self, id: PathId, l: PathId, r: PathId) -> Result<(), Memory>
         requires known { IsKnown self.old id }
         requires known_l { IsKnown self.old l }
@@ -87,6 +89,7 @@ impl Lists {
 
     /// Puts an id behind the historical right extensions of l and the historical left extensions
     /// of r, where it is an extension of both: in time of the lists' lengths, and without memory.
+    #[inline(always)]
     pub fn add_star(&mut self, id: PathId, l: PathId, r: PathId) -> Result<(), Memory>
         requires known_l { IsKnown self.old l }
         requires known_r { IsKnown self.old r }
@@ -103,6 +106,7 @@ impl Lists {
     }
 
     /// Takes an id out of the lists of l and r, in time of their lengths, and forgets it.
+    #[inline(always)]
     pub fn drop_id(&mut self, id: PathId, l: PathId, r: PathId)
         requires known { IsKnown self.old id }
         requires known_l { IsKnown self.old l }

@@ -4,7 +4,8 @@ use Rattle.id_pool.specs.declared.head.Head.{Head}
 use Rattle.id_pool.specs.Lists.{Held}
 use Rattle.id_pool.specs.Blocks.{Owner, Of, Stands, Owns, IsKept, room_of}
 
--- a list in place, with its length, its marks and its three places, or in a block, with its level, length, place and marks
+-- a list in place, with its length, its marks and its three places, or in a block, with its level, length, place and
+-- marks
 pub data Shape : Type 0 where
   Near : ℕ → ℕ → List ℕ → Shape
   Far : ℕ → ℕ → ℕ → ℕ → Shape
@@ -35,7 +36,9 @@ held_of ids h = record { ids = ids_of ids h; marked = mark_of h }
 -- the list k stands here
 abbrev pub IsAt : List ℕ → (ℕ → Owner) → ℕ → Shape → Type 0
 IsAt ids o k (Near len mark few) = (len ≤ 3) × (mark ≤ len) × (length few ≡ 3)
-IsAt ids o k (Far level len place mark) = (level < 13) × (len ≤ room_of level) × (mark ≤ len) × (place + room_of level ≤ length ids) × Owns o (Of k) place (room_of level)
+IsAt ids o k (Far level len place mark) =
+    (level < 13) × (len ≤ room_of level) × (mark ≤ len) × (place + room_of level ≤ length ids)
+    × Owns o (Of k) place (room_of level)
 
 -- it stands as some list can
 pub record IsPlaced (ids free : List ℕ) (h : Shape) : Type 0 where
@@ -55,7 +58,8 @@ pub record IsMovedTo (ids ids' free' : List ℕ) (o : ℕ → Owner) (k : ℕ) (
 
 -- whichever list stood in the one place stands in the other now, and the others keep what they have
 abbrev pub IsMoved : List ℕ → List ℕ → Shape → List ℕ → List ℕ → Shape → Type 0
-IsMoved ids free h ids' free' h' = (o : ℕ → Owner) (depth : ℕ → ℕ) (k : ℕ) → Stands ids free o depth → IsAt ids o k h → IsMovedTo ids ids' free' o k h'
+IsMoved ids free h ids' free' h' = (o : ℕ → Owner) (depth : ℕ → ℕ) (k : ℕ) → Stands ids free o depth → IsAt ids o k h
+    → IsMovedTo ids ids' free' o k h'
 
 -- an empty list stands behind the others
 pub record IsOneMore (old new : List Head) : Type 0 where

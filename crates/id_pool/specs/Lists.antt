@@ -9,7 +9,9 @@ pub record Held : Type 0 where
   pub marked : ℕ
 
 abbrev pub held_code : Coded Held
-held_code = code_by (List ℕ × ℕ) (coded× (coded_list coded_ℕ) coded_ℕ) (λ h. (h.ids, h.marked)) (λ t. record { ids = t.0; marked = t.1 }) (λ _. refl)
+held_code =
+    code_by (List ℕ × ℕ) (coded× (coded_list coded_ℕ) coded_ℕ) (λ h. (h.ids, h.marked))
+    (λ t. record { ids = t.0; marked = t.1 }) (λ _. refl)
 
 abbrev pub no_ids : Held
 no_ids = record { ids = []; marked = 0 }
@@ -33,9 +35,11 @@ pub record IsMarkedAt (old new : Held) (at : ℕ) : Type 0 where
   pub ids : new.ids ≡ swap old.ids old.marked at
   pub marked : new.marked ≡ old.marked + 1
 
--- the id at a place is taken out, and the last one takes its place, or that of the last marked one, which takes its place, where the id is marked
+-- the id at a place is taken out, and the last one takes its place, or that of the last marked one, which takes its
+-- place, where the id is marked
 pub record IsTakenAt (old new : Held) (at : ℕ) : Type 0 where
-  pub marked_ids : at < old.marked → (d : ℕ) → new.ids ≡ swap_remove (swap old.ids at (old.marked - 1)) (old.marked - 1) d
+  pub marked_ids : at < old.marked → (d : ℕ)
+      → new.ids ≡ swap_remove (swap old.ids at (old.marked - 1)) (old.marked - 1) d
   pub marked_fewer : at < old.marked → new.marked ≡ old.marked - 1
   pub plain_ids : old.marked ≤ at → (d : ℕ) → new.ids ≡ swap_remove old.ids at d
   pub plain_marked : old.marked ≤ at → new.marked ≡ old.marked

@@ -71,8 +71,11 @@ impl Head {
     #[inline(always)]
     pub(crate) fn put(&mut self, blocks: &mut Blocks, id: PathId) -> Result<(), Memory>
         requires { IsPlaced blocks.old.ids.items blocks.old.free (shape self.old) }
-        ensures moved { OnOk result (IsMoved blocks.old.ids.items blocks.old.free (shape self.old) blocks.new.ids.items blocks.new.free (shape self.new)) }
-        ensures ids { OnOk result (ids_of blocks.new.ids.items (shape self.new) ≡ ids_of blocks.old.ids.items (shape self.old) ++ id ∷ []) }
+        ensures moved { OnOk result
+            (IsMoved blocks.old.ids.items blocks.old.free (shape self.old) blocks.new.ids.items blocks.new.free
+            (shape self.new)) }
+        ensures ids { OnOk result (ids_of blocks.new.ids.items (shape self.new)
+            ≡ ids_of blocks.old.ids.items (shape self.old) ++ id ∷ []) }
         ensures mark { OnOk result (mark_of (shape self.new) ≡ mark_of (shape self.old)) }
         ensures err_head { OnErr result (self.new ≡ self.old) }
         ensures err_ids { OnErr result (blocks.new.ids.items ≡ blocks.old.ids.items) }
@@ -92,8 +95,11 @@ impl Head {
     fn put_far(&mut self, blocks: &mut Blocks, id: PathId) -> Result<(), Memory>
         requires placed { IsPlaced blocks.old.ids.items blocks.old.free (shape self.old) }
         requires many { 3 ≤ len_of (shape self.old) }
-        ensures moved { OnOk result (IsMoved blocks.old.ids.items blocks.old.free (shape self.old) blocks.new.ids.items blocks.new.free (shape self.new)) }
-        ensures ids { OnOk result (ids_of blocks.new.ids.items (shape self.new) ≡ ids_of blocks.old.ids.items (shape self.old) ++ id ∷ []) }
+        ensures moved { OnOk result
+            (IsMoved blocks.old.ids.items blocks.old.free (shape self.old) blocks.new.ids.items blocks.new.free
+            (shape self.new)) }
+        ensures ids { OnOk result (ids_of blocks.new.ids.items (shape self.new)
+            ≡ ids_of blocks.old.ids.items (shape self.old) ++ id ∷ []) }
         ensures mark { OnOk result (mark_of (shape self.new) ≡ mark_of (shape self.old)) }
         ensures err_head { OnErr result (self.new ≡ self.old) }
         ensures err_ids { OnErr result (blocks.new.ids.items ≡ blocks.old.ids.items) }
@@ -154,8 +160,10 @@ impl Head {
         requires placed { IsPlaced blocks.old.ids.items blocks.old.free (shape self.old) }
         requires plain { mark_of (shape self.old) ≤ at }
         requires inside { at < len_of (shape self.old) }
-        ensures moved { IsMoved blocks.old.ids.items blocks.old.free (shape self.old) blocks.new.ids.items blocks.new.free (shape self.new) }
-        ensures marked { IsMarkedAt (held_of blocks.old.ids.items (shape self.old)) (held_of blocks.new.ids.items (shape self.new)) at }
+        ensures moved { IsMoved blocks.old.ids.items blocks.old.free
+            (shape self.old) blocks.new.ids.items blocks.new.free (shape self.new) }
+        ensures marked { IsMarkedAt (held_of blocks.old.ids.items (shape self.old))
+            (held_of blocks.new.ids.items (shape self.new)) at }
     {
         if self.len > 3 {
             self.mark_far(blocks, at);
@@ -174,8 +182,10 @@ impl Head {
         requires many { 3 < self.old.len }
         requires plain { self.old.mark ≤ at }
         requires inside { at < self.old.len }
-        ensures moved { IsMoved blocks.old.ids.items blocks.old.free (far_of self.old) blocks.new.ids.items blocks.new.free (far_of self.new) }
-        ensures marked { IsMarkedAt (held_of blocks.old.ids.items (far_of self.old)) (held_of blocks.new.ids.items (far_of self.new)) at }
+        ensures moved { IsMoved blocks.old.ids.items blocks.old.free
+            (far_of self.old) blocks.new.ids.items blocks.new.free (far_of self.new) }
+        ensures marked { IsMarkedAt (held_of blocks.old.ids.items (far_of self.old))
+            (held_of blocks.new.ids.items (far_of self.new)) at }
         ensures len { self.new.len ≡ self.old.len }
     {
         let start = self.place();
@@ -192,8 +202,10 @@ impl Head {
     pub(crate) fn take_at(&mut self, blocks: &mut Blocks, at: usize)
         requires placed { IsPlaced blocks.old.ids.items blocks.old.free (shape self.old) }
         requires inside { at < len_of (shape self.old) }
-        ensures moved { IsMoved blocks.old.ids.items blocks.old.free (shape self.old) blocks.new.ids.items blocks.new.free (shape self.new) }
-        ensures taken { IsTakenAt (held_of blocks.old.ids.items (shape self.old)) (held_of blocks.new.ids.items (shape self.new)) at }
+        ensures moved { IsMoved blocks.old.ids.items blocks.old.free
+            (shape self.old) blocks.new.ids.items blocks.new.free (shape self.new) }
+        ensures taken { IsTakenAt (held_of blocks.old.ids.items (shape self.old))
+            (held_of blocks.new.ids.items (shape self.new)) at }
     {
         if self.len > 3 {
             self.take_far(blocks, at);
@@ -220,8 +232,10 @@ impl Head {
         requires placed { IsPlaced blocks.old.ids.items blocks.old.free (far_of self.old) }
         requires many { 3 < self.old.len }
         requires inside { at < self.old.len }
-        ensures moved { IsMoved blocks.old.ids.items blocks.old.free (far_of self.old) blocks.new.ids.items blocks.new.free (shape self.new) }
-        ensures taken { IsTakenAt (held_of blocks.old.ids.items (far_of self.old)) (held_of blocks.new.ids.items (shape self.new)) at }
+        ensures moved { IsMoved blocks.old.ids.items blocks.old.free
+            (far_of self.old) blocks.new.ids.items blocks.new.free (shape self.new) }
+        ensures taken { IsTakenAt (held_of blocks.old.ids.items (far_of self.old))
+            (held_of blocks.new.ids.items (shape self.new)) at }
     {
         self.close(blocks, at);
         if self.len == 3 {
@@ -234,8 +248,10 @@ impl Head {
     fn close(&mut self, blocks: &mut Blocks, at: usize)
         requires placed { IsPlaced blocks.old.ids.items blocks.old.free (far_of self.old) }
         requires inside { at < self.old.len }
-        ensures moved { IsMoved blocks.old.ids.items blocks.old.free (far_of self.old) blocks.new.ids.items blocks.new.free (far_of self.new) }
-        ensures taken { IsTakenAt (held_of blocks.old.ids.items (far_of self.old)) (held_of blocks.new.ids.items (far_of self.new)) at }
+        ensures moved { IsMoved blocks.old.ids.items blocks.old.free
+            (far_of self.old) blocks.new.ids.items blocks.new.free (far_of self.new) }
+        ensures taken { IsTakenAt (held_of blocks.old.ids.items (far_of self.old))
+            (held_of blocks.new.ids.items (far_of self.new)) at }
         ensures len { self.new.len + 1 ≡ self.old.len }
     {
         let start = self.place();
@@ -259,7 +275,8 @@ impl Head {
     fn stand_in_place(&mut self, blocks: &mut Blocks)
         requires placed { IsPlaced blocks.old.ids.items blocks.old.free (far_of self.old) }
         requires three { self.old.len ≡ 3 }
-        ensures moved { IsMoved blocks.old.ids.items blocks.old.free (far_of self.old) blocks.new.ids.items blocks.new.free (shape self.new) }
+        ensures moved { IsMoved blocks.old.ids.items blocks.old.free
+            (far_of self.old) blocks.new.ids.items blocks.new.free (shape self.new) }
         ensures held { held_of blocks.new.ids.items (shape self.new) ≡ held_of blocks.old.ids.items (far_of self.old) }
     {
         let start = self.place();
@@ -275,7 +292,10 @@ impl Head {
 fn spill(few: [PathId; 3], blocks: &mut Blocks) -> Result<usize, Memory>
     requires standing { IsStanding blocks.old.ids.items blocks.old.free }
     requires three { length few ≡ 3 }
-    ensures moved { IfOk result (λ to. (mark : ℕ) → IsMoved blocks.old.ids.items blocks.old.free (Near 3 mark few) blocks.new.ids.items blocks.new.free (Far 0 3 to mark)) }
+    ensures moved { IfOk result
+        (λ to. (mark : ℕ)
+        → IsMoved blocks.old.ids.items blocks.old.free (Near 3 mark few) blocks.new.ids.items blocks.new.free
+        (Far 0 3 to mark)) }
     ensures ids { IfOk result (λ to. ids_of blocks.new.ids.items (Far 0 3 to 0) ≡ take 3 few) }
     ensures inside { IfOk result (λ to. to + 8 ≤ length blocks.new.ids.items) }
     ensures small { IfOk result (λ to. to < 2 ^ 32) }
@@ -294,8 +314,12 @@ fn spill(few: [PathId; 3], blocks: &mut Blocks) -> Result<usize, Memory>
 fn grow(blocks: &mut Blocks, level: usize, len: usize, place: usize) -> Result<usize, Memory>
     requires { IsPlaced blocks.old.ids.items blocks.old.free (Far level len place 0) }
     ensures level { IfOk result (λ _. level + 1 < 13) }
-    ensures moved { IfOk result (λ to. (mark : ℕ) → IsMoved blocks.old.ids.items blocks.old.free (Far level len place mark) blocks.new.ids.items blocks.new.free (Far (level + 1) len to mark)) }
-    ensures ids { IfOk result (λ to. ids_of blocks.new.ids.items (Far (level + 1) len to 0) ≡ ids_of blocks.old.ids.items (Far level len place 0)) }
+    ensures moved { IfOk result
+        (λ to. (mark : ℕ)
+        → IsMoved blocks.old.ids.items blocks.old.free (Far level len place mark) blocks.new.ids.items blocks.new.free
+        (Far (level + 1) len to mark)) }
+    ensures ids { IfOk result (λ to. ids_of blocks.new.ids.items (Far (level + 1) len to 0)
+        ≡ ids_of blocks.old.ids.items (Far level len place 0)) }
     ensures inside { IfOk result (λ to. to + room_of (level + 1) ≤ length blocks.new.ids.items) }
     ensures small { IfOk result (λ to. to < 2 ^ 32) }
     ensures err_ids { OnErr result (blocks.new.ids.items ≡ blocks.old.ids.items) }

@@ -8,7 +8,7 @@ use Rattle.std.proofs.lemmas.Bool.Decides.{nat_tests}
 use Rattle.std.proofs.Common.{sym, ◌∙◌, ap, subst, inl, inr, arith, get_or, set}
 use Rattle.apsp_model.specs.Order.{path_cmp}
 use Rattle.apsp_model.specs.Walk.{first, last}
-use Rattle.apsp_model.proofs.Lists.{contains_nil}
+use Rattle.apsp_model.proofs.Members.{in_nil as contains_nil}
 use Rattle.path_arena.specs.Arena.{Arena, Path, path_at, with_path, no_path, IsArena, IsLive, list_of, weight_of, id_cmp}
 use Rattle.pair_heaps.specs.Heaps.{Pair, Heaps, held_at, IsHeld, IsHeap, HasEnds, Fits, AgreeOnHeld, ChangesOnly, place_of, pair_at}
 use Rattle.pair_heaps.specs.Rows.{heaps_of, IsHeaps}

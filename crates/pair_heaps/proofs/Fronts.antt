@@ -7,7 +7,7 @@ use Rattle.std.proofs.lemmas.Bool.{true≢false}
 use Rattle.std.proofs.lemmas.Bool.Decides.{eqb_tells}
 use Rattle.std.proofs.lemmas.List.{length-take-le, length-drop, get_or-drop, get_or_default, take-append-le, take_all, drop_more}
 use Rattle.std.proofs.lemmas.List.Sorted.{IsPermutation-cons, IsPermutation-trans}
-use Rattle.apsp_model.proofs.Lists.{contains_cons}
+use Rattle.apsp_model.proofs.Members.{in_cons as contains_cons}
 use Rattle.path_arena.specs.Arena.{Arena}
 use Rattle.apsp_model.specs.Walk.{IsOnceEach}
 use Rattle.pair_heaps.specs.Heaps.{IsHeap, IsWith, IsWithout}

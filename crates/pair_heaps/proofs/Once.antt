@@ -9,7 +9,7 @@ use Rattle.std.proofs.lemmas.List.Edits.{Swapped, swapped_from_swap, length-swap
 use Rattle.std.proofs.lemmas.List.Elements.{Contains-push_cases, Contains-append_left, Contains-append_right, Contains-get_or}
 use Rattle.std.proofs.lemmas.List.Sorted.{IsPermutation-keeps, IsPermutation-sym, IsPermutation-to_front, Contains-permutation}
 use Rattle.apsp_model.specs.Walk.{IsOnceEach}
-use Rattle.apsp_model.proofs.Lists.{contains_cons}
+use Rattle.apsp_model.proofs.Members.{in_cons as contains_cons}
 use Rattle.pair_heaps.specs.Heaps.{IsWith, IsWithout}
 
 -- entries at two places are two entries

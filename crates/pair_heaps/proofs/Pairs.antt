@@ -1,13 +1,26 @@
 -- What the heap of one pair is after a call.
-use Rattle.std.specs.Prelude.{◌≡◌, ℕ, ◌+◌, ◌-◌, ◌≤◌, List, [], ◌∷◌, ◌++◌, take, Contains}
+use Rattle.std.specs.Prelude.{◌≡◌, ℕ, zero, suc, ◌+◌, ◌-◌, ◌≤◌, List, [], ◌∷◌, ◌++◌, length, take, slice_get, slice_index, Contains, Option, Some, refl}
 use Rattle.std.specs.List.Sorted.{IsPermutation}
-use Rattle.std.proofs.Common.{sym, subst, arith}
+use Rattle.std.proofs.Common.{sym, ◌∙◌, ap, subst, arith}
+use Rattle.std.proofs.lemmas.List.{get_or-take, length-take-le}
+use Rattle.std.proofs.lemmas.Option.{slice_get-get_or}
 use Rattle.apsp_model.specs.Walk.{IsOnceEach}
 use Rattle.path_arena.specs.Arena.{Arena}
 use Rattle.pair_heaps.specs.declared.pair.Ids.{Ids}
 use Rattle.pair_heaps.specs.Heaps.{Pair, IsHeap, IsWith, IsWithout}
-use Rattle.pair_heaps.specs.Layout.{pair_of, IsPairHeap}
+use Rattle.pair_heaps.specs.Layout.{pair_of, front_of, IsPairHeap}
 use Rattle.pair_heaps.proofs.Once.{with_moved, without_moved}
+
+-- the first of the first entries, by how many these are
+pub front_read : (xs : List ℕ) (len : ℕ) → len ≤ length xs → slice_get (take len xs) 0 ≡ front_of len (slice_index xs 0)
+front_read xs zero inside = refl
+front_read xs (suc k) inside =
+    slice_get-get_or (take (suc k) xs) 0 0 (omega (arith, length-take-le (suc k) xs inside)) ∙ ap Some (get_or-take (suc k) xs 0 0 (omega arith))
+
+-- an id that was read where there is one
+pub front_some : (k v : ℕ) (o : Option ℕ) → (k ≡ 0 → ⊥) → o ≡ front_of k v → Some v ≡ o
+front_some zero v o some is = absurd (some refl)
+front_some (suc k) v o some is = sym is
 
 pub record IsPutIn (a : Arena) (id : ℕ) (p : Pair) (now : Ids) : Type 0 where
   pub sound : IsPairHeap now

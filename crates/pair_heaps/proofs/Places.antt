@@ -1,11 +1,11 @@
 -- The place of each pair in rows, and what a change of one pair leaves.
-use Rattle.std.specs.Prelude.{◌≡◌, ℕ, ◌+◌, ◌*◌, ◌<◌, ◌≤◌, ◌⊎◌, cond, List, [], ◌∷◌, length, refl, Contains, Option, Some, None, IsSome, unwrap_or, Result, Ok, Err, OnOk, OnErr, is_ok}
+use Rattle.std.specs.Prelude.{◌≡◌, ℕ, ◌+◌, ◌*◌, ◌<◌, ◌≤◌, ◌⊎◌, cond, List, [], length, refl, Contains, Option, Some, None, IsSome, unwrap_or, Result, Ok, Err, OnOk, OnErr, is_ok}
 use Rattle.std.specs.List.{All}
-use Rattle.std.proofs.Common.{sym, ◌∙◌, ap, subst, arith, inl, inr, get_or, set, add-one}
+use Rattle.std.proofs.Common.{sym, ◌∙◌, ap, subst, arith, inl, inr, get_or, set}
 use Rattle.std.proofs.lemmas.Bool.{cases_eq, cases_lt, lt-ltb, le-ltb, false≢true, true≢false}
 use Rattle.std.proofs.lemmas.Nat.{mul-add-lt}
 use Rattle.std.proofs.lemmas.List.{get_or-set_same, get_or-set_other, get_or_past, get_or_default, length-set, set-get_or}
-use Rattle.apsp_model.specs.Walk.{first, last}
+use Rattle.apsp_model.proofs.Lists.{first_in, last_in}
 use Rattle.path_arena.specs.Arena.{Arena, Path, IsArena, IsLive, path_at, list_of, no_path}
 use Rattle.pair_heaps.specs.Heaps.{Pair, Heaps, no_pair, place_of, pair_at, held_at, HasEnds, ChangesOnly, IsWith, IsWithout, IsReserved, IsInserted, IsRemoved}
 use Rattle.pair_heaps.specs.Rows.{heaps_of, IsHeaps}
@@ -100,15 +100,6 @@ written n items h x y k v w is sound x_in y_in same at =
     (written_to n x y k items v w sound (omega arith) (omega arith) place (let places : length items ≡ n * n = sound in omega (arith, place_small n x y (omega arith) (omega arith))) at)
 
 -- ---- the ends of a path are vertices
-
-first_in : (p : List ℕ) (x : ℕ) → first p ≡ Some x → Contains p x
-first_in [] x e = cc
-first_in (z ∷ p) x e = let same : z ≡ x = cc in (0, omega arith, same)
-
-last_in : (p : List ℕ) (y : ℕ) → last p ≡ Some y → Contains p y
-last_in [] y e = cc
-last_in (z ∷ []) y e = let same : z ≡ y = cc in (0, omega arith, same)
-last_in (z ∷ u ∷ p) y e = let c : Contains (u ∷ p) y = last_in (u ∷ p) y e in (c.0 + 1, let l : c.0 < length (u ∷ p) = c.1 in omega arith, ap (λ k. get_or (z ∷ u ∷ p) k y) (add-one c.0) ∙ c.2)
 
 path_inside : (a : Arena) (id v : ℕ) → IsArena a → IsLive a id → Contains (list_of a id) v → v < a.vertices
 path_inside a id v lawful live c = go (path_at a id) refl live c

@@ -16,10 +16,14 @@ pub record Heaps : Type 0 where
   pub pairs : List Pair
 
 abbrev pub pair_code : Coded Pair
-pair_code = code_by (List ℕ × ℕ) (coded× (coded_list coded_ℕ) coded_ℕ) (λ p. (p.held, p.spare)) (λ t. record { held = t.0; spare = t.1 }) (λ _. refl)
+pair_code =
+    code_by (List ℕ × ℕ) (coded× (coded_list coded_ℕ) coded_ℕ) (λ p. (p.held, p.spare))
+    (λ t. record { held = t.0; spare = t.1 }) (λ _. refl)
 
 abbrev pub heaps_code : Coded Heaps
-heaps_code = code_by (ℕ × List Pair) (coded× coded_ℕ (coded_list pair_code)) (λ h. (h.vertices, h.pairs)) (λ t. record { vertices = t.0; pairs = t.1 }) (λ _. refl)
+heaps_code =
+    code_by (ℕ × List Pair) (coded× coded_ℕ (coded_list pair_code)) (λ h. (h.vertices, h.pairs))
+    (λ t. record { vertices = t.0; pairs = t.1 }) (λ _. refl)
 
 abbrev pub no_pair : Pair
 no_pair = record { held = []; spare = 0 }

@@ -1,5 +1,5 @@
 -- How the heap of one pair shows its ids. No public clause cites this module.
-use Rattle.std.specs.Prelude.{ℕ, ◌-◌, ◌≤◌, take}
+use Rattle.std.specs.Prelude.{◌≡◌, ℕ, zero, suc, ◌-◌, ◌≤◌, Option, Some, None, length, slice_get, slice_index, take}
 use Rattle.apsp_model.specs.Walk.{IsOnceEach}
 use Rattle.pair_heaps.specs.declared.pair.Ids.{Ids}
 use Rattle.pair_heaps.specs.declared.pair.Ids.TheVariants.{InPlace, InBlock, Grown}
@@ -7,21 +7,32 @@ use Rattle.pair_heaps.specs.Heaps.{Pair}
 
 abbrev pub pair_of : Ids → Pair
 pair_of (InPlace len few) = record { held = take len few; spare = 3 - len }
-pair_of (InBlock len block) = record { held = take len block.value; spare = 8 - len }
-pair_of (Grown tall) = tall.value
+pair_of (InBlock len front block) = record { held = take len block.value; spare = 8 - len }
+pair_of (Grown some front tall) = tall.value
 
--- no more ids than there is room for, and none twice
+-- an id, and none where the number is 0
+abbrev pub front_of : ℕ → ℕ → Option ℕ
+front_of zero front = None
+front_of (suc k) front = Some front
+
+-- no more ids than there is room for, and none twice; the first of a block or a tall heap is noted
 abbrev pub IsPairHeap : Ids → Type 0
 IsPairHeap (InPlace len few) = (len ≤ 3) × IsOnceEach (take len few)
-IsPairHeap (InBlock len block) = (len ≤ 8) × IsOnceEach (take len block.value)
-IsPairHeap (Grown tall) = IsOnceEach tall.value.held
+IsPairHeap (InBlock len front block) =
+    (len ≤ 8) × IsOnceEach (take len block.value) × (front ≡ slice_index block.value 0) × (length block.value ≡ 8)
+IsPairHeap (Grown some front tall) = IsOnceEach tall.value.held × (slice_get tall.value.held 0 ≡ front_of some front)
 
 abbrev pub len_of : Ids → ℕ
 len_of (InPlace len few) = len
-len_of (InBlock len block) = len
-len_of (Grown tall) = 0
+len_of (InBlock len front block) = len
+len_of (Grown some front tall) = some
+
+abbrev pub first_of : Ids → ℕ
+first_of (InPlace len few) = slice_index few 0
+first_of (InBlock len front block) = front
+first_of (Grown some front tall) = front
 
 abbrev pub with_len : Ids → ℕ → Ids
 with_len (InPlace len few) to = InPlace to few
-with_len (InBlock len block) to = InBlock to block
-with_len (Grown tall) to = Grown tall
+with_len (InBlock len front block) to = InBlock to front block
+with_len (Grown some front tall) to = Grown to front tall

@@ -152,7 +152,8 @@ impl Heaps {
         ensures least { IfSome result (IsLeastHeld self.now x y) }
         ensures none { IsNone result ↔ (held_at self.now x y ≡ []) }
     {
-        self.held(x, y).first().copied()
+        let pair = &self.pairs[self.place(x, y)];
+        pair.first()
     }
 
     /// The heap of the pair, its held ids each once: no entry at a place i above 0 is below the one at

@@ -25,7 +25,8 @@ fn is_below(arena: &Arena, ids: &[PathId], one: usize, other: usize) -> bool
 fn lesser_child(arena: &Arena, ids: &[PathId], at: usize) -> Option<usize>
     requires live { AreLive arena.now ids.now }
     ensures { MatchOption result (length ids.now ≤ 2 * at + 1)
-        (λ c. IsChild c at × (c < length ids.now) × ((i : ℕ) → IsChild i at → i < length ids.now → IsUpon arena.now ids.now i c)) }
+        (λ c. IsChild c at × (c < length ids.now) × ((i : ℕ) → IsChild i at → i < length ids.now
+        → IsUpon arena.now ids.now i c)) }
 {
     if at >= ids.len() / 2 {
         return None;

@@ -1,6 +1,6 @@
 //! The ids of a pair that has many.
 
-ghost use Rattle.std.specs.Prelude.{◌≡◌, ℕ, ◌+◌, ◌-◌, ◌<◌, ◌≤◌, length, Contains, OnOk, OnErr, IfOk, IsTrue, ◌↔◌};
+ghost use Rattle.std.specs.Prelude.{◌≡◌, ℕ, ◌+◌, ◌-◌, ◌<◌, ◌≤◌, length, slice_get, Contains, OnOk, OnErr, IfOk, IsTrue, ◌↔◌};
 ghost use Rattle.apsp_model.specs.Walk.{IsOnceEach};
 ghost use Rattle.path_arena.specs.Arena.{IsLive};
 ghost use Rattle.pair_heaps.specs.Heaps.{IsHeap, IsWith, IsWithout};
@@ -52,6 +52,14 @@ impl Tall {
         ensures once { IsOnceEach self.now.held }
     {
         self.ids.as_slice()
+    }
+
+    /// The first entry, if there is one.
+    #[inline(always)]
+    pub(crate) fn first(&self) -> Option<PathId>
+        ensures { result ≡ slice_get self.now.held 0 }
+    {
+        self.ids.first().copied()
     }
 
     /// Whether there is room for one more id.

@@ -1,4 +1,5 @@
-//! Paths of one pair: forty, and the least of them until none is left; three, as their heap has them.
+//! Paths of one pair: forty, and the least of them until none is left; three, as their heap has them;
+//! eleven, of which each is told whether it is the least.
 
 ghost use Rattle.std.specs.Prelude.{◌≡◌, OnOk};
 ghost use Rattle.pair_heaps.specs.Heaps.{Fits};
@@ -19,6 +20,29 @@ fn add(arena: &mut Arena, heaps: &mut Heaps, w: u32) -> Result<PathId, Memory>
     heaps.reserve(0, 2)?;
     heaps.insert(arena, id)?;
     Ok(id)
+}
+
+/// One more path from 0 to 2, and whether it is the least now.
+fn add_told(arena: &mut Arena, heaps: &mut Heaps, w: u32) -> Result<bool, Memory>
+    requires fits { Fits heaps.old arena.old }
+    requires three { arena.old.vertices ≡ 3 }
+    ensures fits { OnOk result (Fits heaps.new arena.new) }
+    ensures three { OnOk result (arena.new.vertices ≡ 3) }
+{
+    let id = arena.edge(0, 2, w, 1)?;
+    let (x, y) = (arena.first(id), arena.last(id));
+    heaps.insert_between(arena, id, x, y)
+}
+
+/// The weight of the path at a place of the heap, which is taken out, and whether it was the least.
+fn take_told(arena: &Arena, heaps: &mut Heaps, place: usize) -> Option<(u64, bool)>
+    requires fits { Fits heaps.old arena.now }
+    requires three { arena.now.vertices ≡ 3 }
+    ensures { Fits heaps.new arena.now }
+{
+    let id = *heaps.held(0, 2).get(place)?;
+    let told = heaps.remove_between(arena, id, 0, 2);
+    Some((arena.weight(id), told))
 }
 
 /// The weight of the least path from 0 to 2, which is taken out.
@@ -72,6 +96,23 @@ fn agree(arena: &Arena, heaps: &mut Heaps, weights: &mut Vec<u64>) -> bool
     weights.is_empty() && heaps.least(0, 2).is_none()
 }
 
+/// Whether of each path that is taken out it is told that it was the least exactly where it has the
+/// least of these weights, until none is left.
+fn tells(arena: &Arena, heaps: &mut Heaps, weights: &mut Vec<u64>) -> bool
+    requires fits { Fits heaps.old arena.now }
+    requires three { arena.now.vertices ≡ 3 }
+{
+    // Places of the heap, first and others.
+    'emptying: for place in [3usize, 0, 5, 0, 0, 2, 1, 0, 1, 1, 0] {
+        let least = weights.iter().copied().min();
+        match take_told(arena, heaps, place) {
+            Some((gone, told)) if told == (least == Some(gone)) => weights.retain(|w| *w != gone),
+            _ => return false,
+        }
+    }
+    weights.is_empty() && heaps.least(0, 2).is_none()
+}
+
 /// Whether the least paths have these weights until none is left.
 fn comes_out(arena: &Arena, heaps: &mut Heaps, weights: &[u32]) -> bool
     requires fits { Fits heaps.old arena.now }
@@ -114,6 +155,33 @@ fn forty_paths_in_another_order(rt: HostRuntime) -> Result<(), Fail> {
         weights.push(u64::from(w))?;
     }
     assert!(rt; agree(&arena, &mut heaps, &mut weights));
+    Ok(())
+}
+
+#[test]
+fn each_is_told_whether_it_is_the_least(rt: HostRuntime) -> Result<(), Fail> {
+    let mut arena = Arena::new(rt.alloc(), 3)?;
+    let mut heaps = Heaps::new(rt.alloc(), 3)?;
+    let mut weights = Vec::new(rt.alloc());
+    // Each of eleven weights, and whether it is below those before it.
+    let rows = [
+        (50, true),
+        (70, false),
+        (30, true),
+        (60, false),
+        (40, false),
+        (20, true),
+        (80, false),
+        (10, true),
+        (90, false),
+        (5, true),
+        (15, false),
+    ];
+    'filling: for (w, least) in rows {
+        assert_eq!(rt; add_told(&mut arena, &mut heaps, w)?, least, "{w} put in");
+        weights.push(u64::from(w))?;
+    }
+    assert!(rt; tells(&arena, &mut heaps, &mut weights));
     Ok(())
 }
 

@@ -6,7 +6,7 @@ use Rattle.std.proofs.lemmas.List.{length-append, get_or_append_left}
 use Rattle.std.proofs.Math.Seq.{get_or-append_seam}
 use Rattle.apsp_model.specs.declared.TheConstants.{MOST_VERTICES, MOST_WEIGHT}
 use Rattle.apsp_model.specs.Walk.{last}
-use Rattle.apsp_model.proofs.Lists.{contains_cons, contains_nil}
+use Rattle.apsp_model.proofs.Members.{in_cons as contains_cons, in_nil as contains_nil}
 use Rattle.path_arena.specs.Arena.{Path, Arena, path_at, vertex_of, IsLive, path_of, weight_of, HasAnEdge, single, edge_path, overlap_of, joined_path, with_path, without_path, second, IsPartOfNone, CanJoin, IsPath, IsArena, IsOpening}
 use Rattle.path_arena.specs.Records.{slot_at, record_at, list_at, part_id, path_from, arena_in, view_of, IsRecordOf, IsKept, IsSound, IsPut, IsTaken, IsSingleRecord}
 use Rattle.path_arena.specs.declared.arena.Record.{Record}

@@ -7,7 +7,7 @@ use Rattle.std.proofs.lemmas.List.Elements.{Contains-append_cases, Contains-appe
 use Rattle.apsp_model.specs.declared.TheConstants.{MOST_WEIGHT}
 use Rattle.apsp_model.specs.Walk.{IsSimple, hops_of, first, last}
 use Rattle.apsp_model.specs.Part.{left_part, right_part}
-use Rattle.apsp_model.proofs.Lists.{contains_cons, contains_nil}
+use Rattle.apsp_model.proofs.Members.{in_cons as contains_cons, in_nil as contains_nil}
 use Rattle.apsp_model.proofs.Walks.{first_is, last_is}
 use Rattle.apsp_model.proofs.Joins.{IsOverlap, left-joined, right-joined, simple-joined}
 use Rattle.path_arena.specs.Arena.{Path, Arena, path_at, vertex_of, IsLive, no_path, path_of, list_of, weight_of, left_of, right_of, HasAnEdge, single, edge_path, overlap_of, joined_path, with_path, without_path, IsPartOfNone, CanJoin, HasParts, IsSingle, IsPath, IsArena}

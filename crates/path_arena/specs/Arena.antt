@@ -25,15 +25,19 @@ pub record Arena : Type 0 where
 
 abbrev pub path_code : Coded Path
 path_code =
-    code_by (List ℕ × (ℕ × (ℕ × (Option ℕ × Option ℕ)))) (coded× (coded_list coded_ℕ) (coded× coded_ℕ (coded× coded_ℕ (coded× (coded_option coded_ℕ) (coded_option coded_ℕ)))))
+    code_by (List ℕ × (ℕ × (ℕ × (Option ℕ × Option ℕ))))
+    (coded× (coded_list coded_ℕ)
+    (coded× coded_ℕ (coded× coded_ℕ (coded× (coded_option coded_ℕ) (coded_option coded_ℕ)))))
     (λ p. (p.list, (p.weight, (p.birth, (p.left, p.right)))))
     (λ t. record { list = t.0; weight = t.1.0; birth = t.1.1.0; left = t.1.1.1.0; right = t.1.1.1.1 })
     (λ _. refl)
 
 abbrev pub arena_code : Coded Arena
 arena_code =
-    code_by (ℕ × (List ℕ × map.FinMap nat_cmp Path)) (coded× coded_ℕ (coded× (coded_list coded_ℕ) (map.code coded_ℕ path_code)))
-    (λ a. (a.vertices, (a.singles, a.paths))) (λ t. record { vertices = t.0; singles = t.1.0; paths = t.1.1 }) (λ _. refl)
+    code_by (ℕ × (List ℕ × map.FinMap nat_cmp Path))
+    (coded× coded_ℕ (coded× (coded_list coded_ℕ) (map.code coded_ℕ path_code)))
+    (λ a. (a.vertices, (a.singles, a.paths))) (λ t. record { vertices = t.0; singles = t.1.0; paths = t.1.1 })
+    (λ _. refl)
 
 abbrev pub path_at : Arena → ℕ → Option Path
 path_at a id = map.get a.paths id
@@ -119,7 +123,8 @@ pub record IsPartOfNone (a : Arena) (id : ℕ) : Type 0 where
   pub left : (k : ℕ) → left_of a k ≡ Some id → ⊥
   pub right : (k : ℕ) → right_of a k ≡ Some id → ⊥
 
--- l and r are live paths with an edge, l without its first vertex is r without its last one, and the ends of both together differ
+-- l and r are live paths with an edge, l without its first vertex is r without its last one, and the ends of both
+-- together differ
 pub record CanJoin (a : Arena) (l r : ℕ) : Type 0 where
   pub left_live : HasAnEdge a l
   pub right_live : HasAnEdge a r

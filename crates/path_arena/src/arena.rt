@@ -113,6 +113,7 @@ impl Arena {
 
     /// Adds the path of l with the last vertex of r behind it. Its weight is that of l plus that of
     /// r less that of the path that they overlap in. Memory changes nothing.
+    #[inline(always)]
     pub fn join(&mut self, l: PathId, r: PathId, birth: u64) -> Result<PathId, Memory>
         requires { CanJoin self.old l r }
         ensures fresh { IfOk result (λ id. path_at self.old id ≡ None) }
@@ -137,6 +138,7 @@ impl Arena {
     }
 
     /// Takes out a path that is no part of a live one.
+    #[inline(always)]
     pub fn remove(&mut self, id: PathId)
         requires edge { HasAnEdge self.old id }
         requires free { IsPartOfNone self.old id }
@@ -245,7 +247,8 @@ impl Arena {
     pub fn compare(&self, a: PathId, b: PathId) -> Ordering
         requires first { IsLive self.now a }
         requires second { IsLive self.now b }
-        ensures value { result ≡ path_cmp (weight_of self.now a) (list_of self.now a) (weight_of self.now b) (list_of self.now b) }
+        ensures value { result
+            ≡ path_cmp (weight_of self.now a) (list_of self.now a) (weight_of self.now b) (list_of self.now b) }
         ensures lawful { IsArena self.now }
     {
         let (left, right) = (self.record(a), self.record(b));
@@ -312,6 +315,7 @@ fn single_record(v: u32) -> Record
 }
 
 /// Puts a record under a new key that an id can hold. Memory changes no slot.
+#[inline(always)]
 fn put(records: &mut Slab<Record>, path: Record) -> Result<PathId, Memory>
     ensures ok { IfOk result (λ key. IsPut records.old.slots records.new.slots key path) }
     ensures memory { OnErr result (records.new.slots ≡ records.old.slots) }

@@ -3,7 +3,7 @@ use Rattle.std.specs.Prelude.{◌≡◌, ℕ, ◌+◌, ◌-◌, ◌≤◌, ◌�
 use Rattle.std.proofs.Common.{sym, ◌∙◌, subst, arith, inl, inr}
 use Rattle.apsp_model.specs.Walk.{IsOnceEach}
 use Rattle.apsp_model.specs.Counts.{CountIs}
-use Rattle.fixup_math.proofs.Counting.{in_cons, in_nil, head_in, tail_in}
+use Rattle.apsp_model.proofs.Members.{in_cons, in_nil, head_in, tail_in}
 
 -- a list with one entry taken out
 record Taken (ys : List (List ℕ)) (x : List ℕ) : Type 0 where

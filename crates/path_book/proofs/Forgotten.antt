@@ -6,7 +6,8 @@ use Rattle.std.proofs.Common.{sym, ◌∙◌, ap, subst, arith, inl, inr}
 use Rattle.std.proofs.lemmas.Bool.{cases_eq, false≢true, true≢false, eq-eqb}
 use Rattle.apsp_model.specs.Walk.{first, last}
 use Rattle.apsp_model.specs.Counts.{CountIs}
-use Rattle.fixup_math.proofs.Counting.{count_same, in_nil, head_in}
+use Rattle.apsp_model.proofs.Members.{in_nil, head_in}
+use Rattle.apsp_model.proofs.Counting.{count_same}
 use Rattle.path_arena.specs.Arena.{Path, Arena, vertex_of, IsLive, no_path, path_of, list_of, left_of, right_of, HasAnEdge, single, without_path, IsPartOfNone}
 use Rattle.path_arena.proofs.Keys.{get_gone, get_gone_other}
 use Rattle.path_arena.proofs.Paths.{IsArena-without, live_from_edge, path_of_at}

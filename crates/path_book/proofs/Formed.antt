@@ -6,7 +6,7 @@ use Rattle.std.proofs.Common.{sym, ◌∙◌, ap, subst, arith, inl, inr}
 use Rattle.std.proofs.lemmas.Bool.{cases_eq, false≢true}
 use Rattle.apsp_model.specs.Walk.{first, last}
 use Rattle.apsp_model.specs.Counts.{CountIs}
-use Rattle.fixup_math.proofs.Counting.{count_more, count_same}
+use Rattle.apsp_model.proofs.Counting.{count_more, count_same}
 use Rattle.path_arena.specs.Arena.{Path, Arena, path_at, IsLive, no_path, path_of, list_of, left_of, right_of, HasAnEdge, with_path, IsArena}
 use Rattle.path_arena.proofs.Keys.{get_put, get_put_other}
 use Rattle.path_arena.proofs.Paths.{live_from, live_apart, path_of_at, live_from_edge}

@@ -4,7 +4,7 @@ use Rattle.std.proofs.Common.{sym, ◌∙◌, ap, subst, arith, inl, inr}
 use Rattle.std.proofs.lemmas.List.{take_more, take_all, get_or_default}
 use Rattle.std.proofs.lemmas.List.Elements.{Contains-append_left, Contains-append_right, Contains-push_cases}
 use Rattle.apsp_model.specs.Walk.{IsOnceEach}
-use Rattle.fixup_math.proofs.Counting.{in_cons, in_nil, head_in, once_append}
+use Rattle.apsp_model.proofs.Members.{in_cons, in_nil, head_in, once_append}
 use Rattle.path_book.specs.Book.{Book, HasNoPendingLeast, IsPendingLeast, ArePendingLeasts}
 use Rattle.path_book.specs.Dirty.{Dirty, flag_at}
 use Rattle.path_book.specs.Layout.{AreHeadsOf, IsClean}

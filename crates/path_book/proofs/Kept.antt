@@ -7,7 +7,7 @@ use Rattle.apsp_model.specs.Paths.{KeptPath, IsKeptIn, IsHistoricalIn, HasBirthI
 use Rattle.path_arena.specs.Arena.{Path, path_at, IsLive, path_of, list_of}
 use Rattle.path_arena.proofs.Paths.{live_path, live_from, path_of_at}
 use Rattle.path_book.specs.Book.{Book, IsMarked, kept_path, kept_paths, IsBook}
-use Rattle.fixup_math.proofs.Counting.{head_in, tail_in}
+use Rattle.apsp_model.proofs.Members.{head_in, tail_in}
 use Rattle.path_book.proofs.Tables.{in_entries, in_map, to_map, rising_head, rising_tail}
 
 module _ (b : Book) where

@@ -4,7 +4,7 @@ use Rattle.std.proofs.Common.{sym, ◌∙◌, ap, subst, arith, inl, inr}
 use Rattle.std.proofs.lemmas.Bool.{cases_eq, cases_lt, true≢false}
 use Rattle.std.proofs.lemmas.List.{get_or-set_same, get_or-set_other, get_or_past, get_or_read, length-set}
 use Rattle.std.proofs.lemmas.List.Elements.{Contains-append_left, Contains-append_right, Contains-push_cases}
-use Rattle.fixup_math.proofs.Counting.{in_nil, head_in, once_append}
+use Rattle.apsp_model.proofs.Members.{in_nil, head_in, once_append}
 use Rattle.pair_heaps.specs.Heaps.{place_of}
 use Rattle.pair_heaps.proofs.Places.{place_once, same_pair}
 use Rattle.path_book.specs.Dirty.{Dirty, flag_at, is_dirty, with_flag, with_all, IsNoted, IsListed}

@@ -7,7 +7,8 @@ use Rattle.std.proofs.Common.{sym, ◌∙◌, ap, subst, arith, inl, inr}
 use Rattle.std.proofs.lemmas.Bool.{cases_eq, cases_lt, false≢true}
 use Rattle.apsp_model.specs.Walk.{first}
 use Rattle.path_arena.proofs.Keys.{get_put}
-use Rattle.fixup_math.proofs.Counting.{count_none, in_nil}
+use Rattle.apsp_model.proofs.Members.{in_nil}
+use Rattle.apsp_model.proofs.Counting.{count_none}
 use Rattle.path_arena.specs.Arena.{Path, Arena, path_at, vertex_of, IsLive, path_of, list_of, left_of, right_of, HasAnEdge, single, no_path, IsArena, IsOpening}
 use Rattle.path_arena.proofs.Paths.{live_from, live_from_edge, path_of_at}
 use Rattle.pair_heaps.specs.Heaps.{Heaps, held_at, Fits}

@@ -4,7 +4,7 @@ use Rattle.std.specs.FinSet as set
 use Rattle.std.proofs.Common.{sym, ◌∙◌, ap, subst, arith, inl, inr}
 use Rattle.std.proofs.lemmas.Bool.{cases_eq, false≢true, eq-eqb, eqb-true}
 use Rattle.apsp_model.specs.Counts.{CountIs}
-use Rattle.fixup_math.proofs.Counting.{count_more}
+use Rattle.apsp_model.proofs.Counting.{count_more}
 use Rattle.path_arena.specs.Arena.{Path, IsLive, path_of, list_of, left_of, right_of, HasAnEdge}
 use Rattle.path_arena.proofs.Paths.{Parted, parted, live_from_edge}
 use Rattle.pair_heaps.specs.Heaps.{Heaps}

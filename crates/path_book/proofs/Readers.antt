@@ -8,7 +8,8 @@ use Rattle.apsp_model.specs.Walk.{IsSimple, first, last}
 use Rattle.apsp_model.specs.Kept.{IsWithEdge}
 use Rattle.apsp_model.specs.Counts.{CountIs}
 use Rattle.apsp_model.specs.Paths.{IsKeptIn, IsHistoricalIn}
-use Rattle.fixup_math.proofs.Counting.{count_same, count_either, in_nil, head_in, tail_in}
+use Rattle.apsp_model.proofs.Members.{in_nil, head_in, tail_in}
+use Rattle.apsp_model.proofs.Counting.{count_same, count_either}
 use Rattle.path_arena.specs.Arena.{Path, Arena, path_at, vertex_of, IsLive, path_of, list_of, HasAnEdge, single, id_cmp, IsArena}
 use Rattle.path_arena.proofs.Paths.{Parted, parted, live_path, live_from, live_from_edge, path_of_at}
 use Rattle.pair_heaps.specs.Heaps.{Heaps, held_at, HasEnds, IsHeld, IsLeastHeld, IsLeastIn, TellsLeast}

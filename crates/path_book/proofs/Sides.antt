@@ -4,7 +4,7 @@ use Rattle.std.specs.FinMap as map
 use Rattle.std.proofs.Common.{sym, ◌∙◌, ap, subst, inl, inr}
 use Rattle.std.proofs.lemmas.Bool.{cases_eq, false≢true, ne_eqb, eq-eqb, eqb-true}
 use Rattle.std.proofs.lemmas.List.Elements.{Contains-append_left, Contains-append_right, Contains-append_cases}
-use Rattle.fixup_math.proofs.Counting.{in_cons, in_nil, head_in}
+use Rattle.apsp_model.proofs.Members.{in_cons, in_nil, head_in}
 use Rattle.path_arena.specs.Arena.{Path, Arena, path_at, no_path, path_of, with_path, without_path}
 use Rattle.path_arena.proofs.Keys.{get_put, get_put_other, get_gone, get_gone_other}
 use Rattle.extension_lists.specs.Known.{Sides, Known, no_sides, IsKnown, sides_at, change, IsLeft}

@@ -8,7 +8,7 @@ use Rattle.std.specs.FinMap.Entries.{below_all}
 use Rattle.std.proofs.Common.{sym, ◌∙◌, ap, subst, arith, inl, inr}
 use Rattle.std.proofs.lemmas.Bool.{cases_eq}
 use Rattle.std.proofs.lemmas.Bool.Decides.{nat_tests}
-use Rattle.fixup_math.proofs.Counting.{in_cons, in_nil, head_in, tail_in}
+use Rattle.apsp_model.proofs.Members.{in_cons, in_nil, head_in, tail_in}
 use Rattle.path_arena.proofs.Keys.{tied_key, apart_key}
 
 left_holds : (a b : Bool) → T (a && b) → T a

@@ -53,7 +53,8 @@ entered lists id l r = added (paths.insert lists id no_sides) id l r
 
 -- one more path is kept, and not historical
 abbrev pub with_kept : Book → ℕ → Path → Book
-with_kept b id p = record { arena = with_path b.arena id p; marked = b.marked; lists = entered b.lists id (left_id p) (right_id p) }
+with_kept b id p =
+    record { arena = with_path b.arena id p; marked = b.marked; lists = entered b.lists id (left_id p) (right_id p) }
 
 -- a kept path becomes historical, and the lists are these then
 abbrev pub with_mark : Book → ℕ → Known → Book
@@ -72,13 +73,16 @@ pub record IsOpening (b : Book) (n : ℕ) : Type 0 where
 
 -- ---- what holds of every book
 
--- the lists know exactly the kept ids, and of each the ids of its extensions: those whose part without the first or without the last vertex it is, and the historical ones of them
+-- the lists know exactly the kept ids, and of each the ids of its extensions: those whose part without the first or
+-- without the last vertex it is, and the historical ones of them
 pub record HasExtensions (a : Arena) (marked : set.FinSet nat_cmp) (lists : Known) : Type 0 where
   pub known : (id : ℕ) → IsKnown lists id ↔ IsLive a id
   pub left : (k id : ℕ) → Contains (sides_at lists k).left id ↔ (right_of a id ≡ Some k)
   pub right : (k id : ℕ) → Contains (sides_at lists k).right id ↔ (left_of a id ≡ Some k)
-  pub left_star : (k id : ℕ) → Contains (sides_at lists k).left_star id ↔ ((right_of a id ≡ Some k) × IsTrue (set.contains marked id))
-  pub right_star : (k id : ℕ) → Contains (sides_at lists k).right_star id ↔ ((left_of a id ≡ Some k) × IsTrue (set.contains marked id))
+  pub left_star : (k id : ℕ) → Contains (sides_at lists k).left_star id
+      ↔ ((right_of a id ≡ Some k) × IsTrue (set.contains marked id))
+  pub right_star : (k id : ℕ) → Contains (sides_at lists k).right_star id
+      ↔ ((left_of a id ≡ Some k) × IsTrue (set.contains marked id))
 
 pub record IsBook (b : Book) : Type 0 where
   pub arena : IsArena b.arena
@@ -119,7 +123,8 @@ HasNonePending b = (x y : ℕ) → x < b.arena.vertices → y < b.arena.vertices
 
 -- these are the least kept paths of the pairs of vertices below n that are not historical, each once
 pub record ArePendingLeasts (b : Book) (n : ℕ) (ids : List ℕ) : Type 0 where
-  pub pairs : (x y : ℕ) → x < n → y < n → HasNoPendingLeast b x y ⊎ ((id : ℕ) × IsPendingLeast b x y id × Contains ids id)
+  pub pairs : (x y : ℕ) → x < n → y < n → HasNoPendingLeast b x y
+      ⊎ ((id : ℕ) × IsPendingLeast b x y id × Contains ids id)
   pub only : (id : ℕ) → Contains ids id → (x : ℕ) × (y : ℕ) × (x < n) × (y < n) × IsPendingLeast b x y id
   pub once : IsOnceEach ids
 

@@ -11,7 +11,9 @@ pub record Dirty : Type 0 where
   pub flags : List Bool
 
 abbrev pub dirty_code : Coded Dirty
-dirty_code = code_by (ℕ × (Bool × List Bool)) (coded× coded_ℕ (coded× coded_bool (coded_list coded_bool))) (λ d. (d.vertices, (d.all, d.flags))) (λ t. record { vertices = t.0; all = t.1.0; flags = t.1.1 }) (λ _. refl)
+dirty_code =
+    code_by (ℕ × (Bool × List Bool)) (coded× coded_ℕ (coded× coded_bool (coded_list coded_bool)))
+    (λ d. (d.vertices, (d.all, d.flags))) (λ t. record { vertices = t.0; all = t.1.0; flags = t.1.1 }) (λ _. refl)
 
 abbrev pub flag_at : Dirty → ℕ → ℕ → Bool
 flag_at d x y = slice_index_or d.flags (place_of d.vertices x y) true
@@ -20,7 +22,8 @@ abbrev pub is_dirty : Dirty → ℕ → ℕ → Bool
 is_dirty d x y = cond d.all true (flag_at d x y)
 
 abbrev pub with_flag : Dirty → ℕ → ℕ → Dirty
-with_flag d x y = record { vertices = d.vertices; all = d.all; flags = slice_set d.flags (place_of d.vertices x y) true }
+with_flag d x y =
+    record { vertices = d.vertices; all = d.all; flags = slice_set d.flags (place_of d.vertices x y) true }
 
 abbrev pub with_all : Dirty → Dirty
 with_all d = record { vertices = d.vertices; all = true; flags = d.flags }

@@ -2,6 +2,7 @@
 use Rattle.std.specs.Prelude.{◌≡◌, ℕ, ◌+◌, ◌<◌, ◌≤◌, ◌^◌, ◌⊎◌, Bool, true, false, IsTrue, List, [], ◌∷◌, slice_index_or, Some, Contains}
 use Rattle.std.specs.Ordering.{nat_cmp}
 use Rattle.std.specs.FinSet as set
+use Rattle.apsp_model.specs.declared.TheConstants.{MOST_PATHS}
 use Rattle.apsp_model.specs.Walk.{IsOnceEach, last}
 use Rattle.apsp_model.specs.Counts.{CountIs}
 use Rattle.path_arena.specs.Arena.{Arena, HasAnEdge, vertex_of, list_of, left_of}
@@ -34,7 +35,8 @@ pub record HoldsPaths (a : Arena) (h : Heaps) : Type 0 where
 
 -- lists of paths with an edge, historical or not yet
 abbrev pub IsCounted : Book → Bool → List ℕ → Type 0
-IsCounted b historical p = (id : ℕ) × HasAnEdge b.arena id × (list_of b.arena id ≡ p) × (set.contains b.marked id ≡ historical)
+IsCounted b historical p =
+    (id : ℕ) × HasAnEdge b.arena id × (list_of b.arena id ≡ p) × (set.contains b.marked id ≡ historical)
 
 -- the parts of a book keep what contracts see of it
 pub record IsStored (b : Book) (held : Heaps) (historical pending : ℕ) : Type 0 where
@@ -42,7 +44,7 @@ pub record IsStored (b : Book) (held : Heaps) (historical pending : ℕ) : Type 
   pub heaps : HoldsPaths b.arena held
   pub historical_count : CountIs (IsCounted b true) historical
   pub pending_count : CountIs (IsCounted b false) pending
-  pub most : historical + pending ≤ 2 ^ 48
+  pub most : historical + pending ≤ MOST_PATHS
 
 -- of a pair that is not dirty the least kept path, if there is one, is historical
 pub record IsClean (b : Book) (d : Dirty) : Type 0 where
@@ -58,7 +60,8 @@ IsSound b = IsLaidOut (view_of b) b.heaps b.dirty b.historical b.pending
 
 -- these are the least kept paths of these pairs that are not historical, each once
 pub record AreHeadsOf (b : Book) (pairs : List (ℕ × ℕ)) (ids : List ℕ) : Type 0 where
-  pub looked : (p : ℕ × ℕ) → Contains pairs p → HasNoPendingLeast b p.0 p.1 ⊎ ((id : ℕ) × IsPendingLeast b p.0 p.1 id × Contains ids id)
+  pub looked : (p : ℕ × ℕ) → Contains pairs p
+      → HasNoPendingLeast b p.0 p.1 ⊎ ((id : ℕ) × IsPendingLeast b p.0 p.1 id × Contains ids id)
   pub only : (id : ℕ) → Contains ids id → (p : ℕ × ℕ) × Contains pairs p × IsPendingLeast b p.0 p.1 id
   pub once : IsOnceEach ids
 

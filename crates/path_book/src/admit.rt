@@ -88,6 +88,7 @@ pub(crate) fn admit_known(
 }
 
 /// Lets the lists know an id, as an extension of its two parts.
+#[inline(always)]
 fn enter(lists: &mut Lists, id: PathId, left: PathId, right: PathId) -> Result<(), Memory>
     requires new { IsKnown lists.old id → ⊥ }
     requires left_known { IsKnown lists.old left }

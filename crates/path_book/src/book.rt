@@ -127,6 +127,7 @@ impl Book {
 
     /// The same where the first vertex of l and the last one of r are known. Says whether the join is
     /// the least kept path of its pair.
+    #[inline(always)]
     pub fn form_join_between(
         &mut self,
         l: PathId,
@@ -166,11 +167,14 @@ impl Book {
     }
 
     /// Makes a kept path historical. Memory changes nothing.
+    #[inline(always)]
     pub fn promote(&mut self, id: PathId) -> Result<(), Memory>
         requires live { IsLive self.old.arena id }
         requires pending { IsMarked self.old id → ⊥ }
         ensures marked { OnOk result (self.new ≡ with_mark self.old id self.new.lists) }
-        ensures starred { OnOk result (IsStarred self.old.lists self.new.lists id (left_id (path_of self.old.arena id)) (right_id (path_of self.old.arena id))) }
+        ensures starred { OnOk result
+            (IsStarred self.old.lists self.new.lists id (left_id (path_of self.old.arena id))
+            (right_id (path_of self.old.arena id))) }
         ensures lawful { IsBook self.new }
         ensures memory { OnErr result (self.new ≡ self.old) }
     {
@@ -184,6 +188,7 @@ impl Book {
     }
 
     /// Forgets a path that is no part of a kept one.
+    #[inline(always)]
     pub fn forget(&mut self, id: PathId)
         requires edge { HasAnEdge self.old.arena id }
         requires free { IsPartOfNone self.old.arena id }
@@ -293,7 +298,7 @@ impl Book {
     /// The number of kept paths with an edge.
     pub fn count_paths(&self) -> u64
         ensures count { PathsCount self.now result }
-        ensures most { result ≤ 2 ^ 48 }
+        ensures most { result ≤ MOST_PATHS }
         ensures lawful { IsBook self.now }
     {
         self.historical + self.pending
@@ -302,7 +307,7 @@ impl Book {
     /// The number of historical paths with an edge.
     pub fn count_historical(&self) -> u64
         ensures count { HistoricalCount self.now result }
-        ensures most { result ≤ 2 ^ 48 }
+        ensures most { result ≤ MOST_PATHS }
         ensures lawful { IsBook self.now }
     {
         self.historical
@@ -313,7 +318,8 @@ impl Book {
     pub fn birth_of(&self, list: &[u32]) -> Option<u64>
         requires some { 0 < length list.now }
         requires inside { All (λ v. v < self.now.arena.vertices) list.now }
-        ensures birth { MatchOption result (IsKeptIn (kept_paths self.now) list.now → ⊥) (HasBirthIn (kept_paths self.now) list.now) }
+        ensures birth { MatchOption result (IsKeptIn (kept_paths self.now) list.now → ⊥)
+            (HasBirthIn (kept_paths self.now) list.now) }
         ensures lawful { IsBook self.now }
     {
         let mut id = self.arena.vertex(list[0]);
