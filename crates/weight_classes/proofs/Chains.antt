@@ -1,4 +1,4 @@
--- The bucket of a rank is found from its cell, bucket by bucket.
+-- For find and bucket_of: the bucket of a rank is found from its cell, bucket by bucket.
 use Rattle.std.specs.Prelude.{◌≡◌, ◌≢◌, ℕ, ◌+◌, ◌<◌, ◌≤◌, ◌⊎◌, cond, List, [], ◌∷◌, ◌++◌, length, slice_index, slice_set, nat_eq, refl}
 use Rattle.std.proofs.Common.{sym, ◌∙◌, ap, subst, arith, inl, inr, get_or}
 use Rattle.std.proofs.lemmas.Bool.{cases_lt, cases_eq}

@@ -1,4 +1,4 @@
--- Classes when a path is added to the arena under an id that was not live.
+-- For the test's add: classes when a path is added to the arena under an id that was not live.
 use Rattle.std.specs.Prelude.{◌≡◌, ℕ, None, Option, IsSome, is_some, unwrap_or, refl}
 use Rattle.std.proofs.Common.{sym, ◌∙◌, ap, subst}
 use Rattle.std.proofs.lemmas.Bool.{false≢true}

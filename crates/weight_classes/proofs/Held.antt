@@ -1,4 +1,4 @@
--- The ids that buckets hold, when one has one id more or gives its ids away.
+-- For push and class_at: the ids that buckets hold, when one has one id more or gives its ids away.
 use Rattle.std.specs.Prelude.{◌≡◌, ℕ, zero, suc, ◌<◌, ◌⊎◌, ◌↔◌, List, [], ◌∷◌, ◌++◌, length, slice_set, refl, Contains}
 use Rattle.std.specs.List.Sorted.{IsPermutation}
 use Rattle.std.proofs.Common.{sym, ◌∙◌, ap, subst, arith, inl, inr, get_or}

@@ -1,4 +1,4 @@
--- One bucket has other ids.
+-- For hold and push: one bucket has other ids.
 use Rattle.std.specs.Prelude.{◌≡◌, ℕ, ◌<◌, ◌≤◌, true, Bool, List, [], ◌∷◌, ◌++◌, length, slice_set, is_ok, Result, Ok, Err, OnOk, OnErr, refl}
 use Rattle.std.specs.List.Sorted.{IsPermutation}
 use Rattle.std.specs.BinaryHeap.{KeepsHeap}
@@ -19,7 +19,7 @@ pub ok_then : {A E P : Type 0} (r : Result A E) → is_ok r ≡ true → OnOk r 
 ok_then (Ok a) ok p = p
 ok_then (Err e) ok p = absurd (false≢true ok)
 
-turns_pushed : (turns : List Turn) (rs : List Rank) (idss : List (List ℕ)) (at : ℕ) → AreTurns turns rs idss (λ i. ⊥) → at < length rs → (now : List Turn) → IsPermutation (turn_of (rank_at rs at) at ∷ turns) now → KeepsHeap turn_cmp turns now → (ids : List ℕ) → AreTurns now rs (slice_set idss at ids) (λ i. ⊥)
+turns_pushed : (turns : List Turn) (rs : List Rank) (idss : List (List ℕ)) (at : ℕ) → AreTurns turns rs idss → at < length rs → (now : List Turn) → IsPermutation (turn_of (rank_at rs at) at ∷ turns) now → KeepsHeap turn_cmp turns now → (ids : List ℕ) → AreTurns now rs (slice_set idss at ids)
 turns_pushed turns rs idss at s inside now moved keeps ids =
     let t : Turn = turn_of (rank_at rs at) at in
     turns_more turns rs idss at 0 s inside now (keeps s.ordered)
@@ -27,8 +27,8 @@ turns_pushed turns rs idss at s inside now moved keeps ids =
     (λ u c. Contains-permutation (t ∷ turns) now u moved (tail_there t turns u c))
     (Contains-permutation (t ∷ turns) now t moved (head_there t turns)) ids
 
-turns_kept : (turns : List Turn) (rs : List Rank) (idss : List (List ℕ)) (at : ℕ) → AreTurns turns rs idss (λ i. ⊥) → at < length rs → 0 < length (ids_at idss at) → (ids : List ℕ) → AreTurns turns rs (slice_set idss at ids) (λ i. ⊥)
-turns_kept turns rs idss at s inside some ids = turns_more turns rs idss at 0 s inside turns s.ordered (λ u c. inl c) (λ u c. c) (elim (s.each at inside some) [ inl gone ↦ absurd gone | inr c ↦ c ]) ids
+turns_kept : (turns : List Turn) (rs : List Rank) (idss : List (List ℕ)) (at : ℕ) → AreTurns turns rs idss → at < length rs → 0 < length (ids_at idss at) → (ids : List ℕ) → AreTurns turns rs (slice_set idss at ids)
+turns_kept turns rs idss at s inside some ids = turns_more turns rs idss at 0 s inside turns s.ordered (λ u c. inl c) (λ u c. c) (s.each at inside some) ids
 
 module _ (bs : List Bucket) (i : ℕ) (b d : Bucket) (inside : i < length bs) (at : b ≡ get_or bs i b) (same : rank_in d ≡ rank_in b) where
   pub indexed_same : d.next ≡ b.next → (heads : List ℕ) → IsIndexed heads bs → IsIndexed heads (slice_set bs i d)
@@ -36,10 +36,10 @@ module _ (bs : List Bucket) (i : ℕ) (b d : Bucket) (inside : i < length bs) (a
       subst (λ (rs : List Rank). AreIndexed (length heads) heads rs (nexts_in (slice_set bs i d))) (sym (ranks_same bs i b d inside at same))
       (subst (λ (ns : List ℕ). AreIndexed (length heads) heads (ranks_in bs) ns) (sym (nexts_same bs i b d inside at next)) s)
 
-  queue_by : (turns : List Turn) → AreTurns turns (ranks_in bs) (slice_set (idss_in bs) i (ids_of d.ids)) (λ j. ⊥) → IsQueue turns (slice_set bs i d)
+  queue_by : (turns : List Turn) → AreTurns turns (ranks_in bs) (slice_set (idss_in bs) i (ids_of d.ids)) → IsQueue turns (slice_set bs i d)
   queue_by turns s =
-      subst (λ (rs : List Rank). AreTurns turns rs (idss_in (slice_set bs i d)) (λ j. ⊥)) (sym (ranks_same bs i b d inside at same))
-      (subst (λ (idss : List (List ℕ)). AreTurns turns (ranks_in bs) idss (λ j. ⊥)) (sym (idss_now bs i b d inside at)) s)
+      subst (λ (rs : List Rank). AreTurns turns rs (idss_in (slice_set bs i d))) (sym (ranks_same bs i b d inside at same))
+      (subst (λ (idss : List (List ℕ)). AreTurns turns (ranks_in bs) idss) (sym (idss_now bs i b d inside at)) s)
 
   inside_ranks : i < length (ranks_in bs)
   inside_ranks = omega (arith, inside, length-map bs rank_in)
@@ -84,8 +84,8 @@ module _ (old new : List Bucket) (added : IsBucketAdded old new) where
     | inl same ↦ subst (IsQueue turns) (sym same) s
     | inr more ↦
         subst (IsQueue turns) (sym more.2)
-        (subst (λ (rs : List Rank). AreTurns turns rs (idss_in (old ++ more.0 ∷ [])) (λ i. ⊥)) (sym (ranks_grown more.0))
-        (subst (λ (idss : List (List ℕ)). AreTurns turns (ranks_in old ++ rank_in more.0 ∷ []) idss (λ i. ⊥)) (sym (idss_grown more.0 more.1)) (turns_bucket turns (ranks_in old) (idss_in old) (rank_in more.0) s)))
+        (subst (λ (rs : List Rank). AreTurns turns rs (idss_in (old ++ more.0 ∷ []))) (sym (ranks_grown more.0))
+        (subst (λ (idss : List (List ℕ)). AreTurns turns (ranks_in old ++ rank_in more.0 ∷ []) idss) (sym (idss_grown more.0 more.1)) (turns_bucket turns (ranks_in old) (idss_in old) (rank_in more.0) s)))
   ]
 
   pub added_roomy : (most : ℕ) → AreRoomy most old → AreRoomy most new

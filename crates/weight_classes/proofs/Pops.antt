@@ -1,13 +1,15 @@
--- What taking the next bucket gives.
-use Rattle.std.specs.Prelude.{◌≡◌, ◌≢◌, ℕ, ◌+◌, ◌*◌, ◌<◌, ◌≤◌, false, Bool, List, [], length, slice_index_or, slice_set, replicate, refl, Contains}
+-- For class_at: what taking the ids of a bucket gives.
+use Rattle.std.specs.Prelude.{◌≡◌, ◌≢◌, ℕ, ◌+◌, ◌*◌, ◌<◌, ◌≤◌, false, Bool, List, [], ◌++◌, length, slice_index_or, slice_set, replicate, refl, Contains}
 use Rattle.std.proofs.Common.{sym, ◌∙◌, ap, subst, arith, inl, inr}
 use Rattle.std.proofs.lemmas.Bool.{cases_lt, cases_eq, false≢true}
 use Rattle.std.proofs.lemmas.List.{get_or-set_same, get_or-set_other, get_or-replicate, get_or_past, length-replicate, length-map}
+use Rattle.std.proofs.lemmas.List.Elements.{Contains-append_right}
+use Rattle.std.proofs.lemmas.List.Sorted.{IsPermutation-sym, Contains-permutation}
 use Rattle.path_arena.specs.Arena.{Arena, IsLive}
 use Rattle.weight_classes.specs.declared.buckets.Bucket.{Bucket}
-use Rattle.weight_classes.specs.Classes.{Classes, Rank, IsLower, Fits, first_of, last_of, SamePair, IsPopped}
-use Rattle.weight_classes.specs.Inside.{rank_in, ranks_in, idss_in, rank_at, ids_at, held_by, held_in, Turn, AreTurns, AreRoomy, AreEmpty, IsIndexed, IsNext, IsQueue}
-use Rattle.weight_classes.specs.Choice.{IsWonAt, place_of, HasEnds, IsChosen}
+use Rattle.weight_classes.specs.Classes.{Classes, Rank, IsLower, Fits, first_of, last_of, SamePair, IsPopped, ranked}
+use Rattle.weight_classes.specs.Inside.{rank_in, ranks_in, idss_in, rank_at, ids_at, held_by, held_in, shown_by, Turn, AreTurns, AreRoomy, AreEmpty, IsIndexed, IsNext, IsQueue}
+use Rattle.weight_classes.specs.Choice.{IsWonAt, pair_place, EndsAreVertices, IsChosen}
 use Rattle.weight_classes.proofs.Rows.{same_pair, in_order, place_below, one_place}
 use Rattle.weight_classes.proofs.Held.{same_rank, held_where, held_less, held_there, held_none, some_id, IsIn}
 use Rattle.weight_classes.proofs.Turns.{turns_taken}
@@ -56,7 +58,7 @@ module _ (a : Arena) (rs : List Rank) (idss : List (List ℕ)) (at : ℕ) (won m
     (some : 0 < length (ids_at idss at))
     (least : (j : ℕ) → j < length rs → 0 < length (ids_at idss j) → IsLower (rank_at rs j) (rank_at rs at) → ⊥)
     (chosen : IsChosen a (Contains (ids_at idss at)) won marks winners last)
-    (ends : (q : ℕ) → Contains (ids_at idss at) q → HasEnds a q)
+    (ends : (q : ℕ) → Contains (ids_at idss at) q → EndsAreVertices a q)
     (pairs : length won ≡ a.vertices * a.vertices) where
   above : (r : Rank) (id : ℕ) → Contains (held_by rs (slice_set idss at [])) (r, id) → IsLower (rank_at rs at) r
   above r id c =
@@ -65,7 +67,7 @@ module _ (a : Arena) (rs : List Rank) (idss : List (List ℕ)) (at : ℕ) (won m
       let there : 0 < length (ids_at idss h.i) = omega (arith, some_id (ids_at (slice_set idss at []) h.i) id h.held, ap length (get_or-set_other idss at h.i [] [] apart)) in
       subst (IsLower (rank_at rs at)) h.rank (lower_or_more (rank_at rs at) (rank_at rs h.i) (λ same. apart (sym (once at h.i inside h.inside same))) (least h.i h.inside there))
 
-  place_same : (q w : ℕ) → SamePair a q w → place_of a q ≡ place_of a w
+  place_same : (q w : ℕ) → SamePair a q w → pair_place a q ≡ pair_place a w
   place_same q w same = ap (λ z. z * a.vertices + last_of a q) same.0 ∙ ap (λ z. first_of a w * a.vertices + z) same.1
 
   pub popped : IsPopped (record { vertices = a.vertices; held = held_by rs idss; won = won }) (record { vertices = a.vertices; held = held_by rs (slice_set idss at []); won = marks }) a (rank_at rs at) winners
@@ -90,7 +92,7 @@ module _ (a : Arena) (rs : List Rank) (idss : List (List ℕ)) (at : ℕ) (won m
           λ now. elim ((chosen.marked (x * a.vertices + y) k_in).0 now) [
             | inl old ↦ inl old
             | inr w ↦
-                let e : HasEnds a w.0 = ends w.0 (chosen.seen w.0 w.1) in
+                let e : EndsAreVertices a w.0 = ends w.0 (chosen.seen w.0 w.1) in
                 let one : (first_of a w.0 ≡ x) × (last_of a w.0 ≡ y) = one_place a.vertices (first_of a w.0) (last_of a w.0) x y e.1 y_in w.2 in
                 inr (w.0, w.1, one.0, one.1)
           ],
@@ -103,44 +105,63 @@ module _ (a : Arena) (rs : List Rank) (idss : List (List ℕ)) (at : ℕ) (won m
 
 -- ---- from the fields
 
-module _ (h : Classes) (a : Arena) (n : ℕ) (bs : List Bucket) (won : List Bool) (is : ◌≡◌ {A = Classes} (record { vertices = n; held = held_in bs; won = won }) h) where
-  held_is : h.held ≡ held_in bs
-  held_is = sym (ap (λ (c : Classes). c.held) is)
+pub none_held : (h : Classes) (n : ℕ) (bs : List Bucket) (won : List Bool) → ◌≡◌ {A = Classes} (shown_by n bs won) h → AreEmpty bs → h.held ≡ []
+none_held h n bs won is none = sym (ap (λ (c : Classes). c.held) is) ∙ held_none (ranks_in bs) (idss_in bs) none
 
+module _ (a : Arena) (n : ℕ) (bs : List Bucket) (won : List Bool) (fits : Fits (shown_by n bs won) a) where
   as_many : length (idss_in bs) ≡ length (ranks_in bs)
   as_many = length-map bs (λ (c : Bucket). ids_of c.ids) ∙ sym (length-map bs rank_in)
 
-  pub none_held : AreEmpty bs → h.held ≡ []
-  none_held none = held_is ∙ held_none (ranks_in bs) (idss_in bs) none
+  module _ (at : ℕ) (inside : at < length bs) (ids : List ℕ) (are : ids ≡ ids_at (idss_in bs) at) where
+    at_in : at < length (ranks_in bs)
+    at_in = omega (arith, inside, length-map bs rank_in)
 
-  -- the ids of a bucket are live
-  pub bucket_live : Fits h a → (at : ℕ) → at < length bs → (ids : List ℕ) → ids ≡ ids_at (idss_in bs) at → (q : ℕ) → Contains ids q → IsLive a q
-  bucket_live fits at inside ids are q c = fits.live (rank_at (ranks_in bs) at) q (subst (λ (hs : List (Rank × ℕ)). Contains hs (rank_at (ranks_in bs) at, q)) (sym held_is) (held_there (ranks_in bs) (idss_in bs) at (omega (arith, inside, length-map bs rank_in)) as_many q (subst (λ js. Contains js q) are c)))
+    -- the ids of a bucket are live
+    pub bucket_live : (q : ℕ) → Contains ids q → IsLive a q
+    bucket_live q c = fits.live (rank_at (ranks_in bs) at) q (held_there (ranks_in bs) (idss_in bs) at at_in as_many q (subst (λ js. Contains js q) are c))
 
-  module _ (turns : List Turn) (after : List Bucket) (at : ℕ) (next : IsNext turns bs at) (ranks : ranks_in after ≡ ranks_in bs) (idss : idss_in after ≡ slice_set (idss_in bs) at []) where
-    pub queue_taken : IsQueue turns after
-    queue_taken =
-        subst (λ (rs : List Rank). AreTurns turns rs (idss_in after) (λ i. ⊥)) (sym ranks)
-        (subst (λ (js : List (List ℕ)). AreTurns turns (ranks_in bs) js (λ i. ⊥)) (sym idss) (turns_taken turns (ranks_in bs) (idss_in bs) at next.queue (omega (arith, next.inside, length-map bs rank_in))))
+    module _ (after : List Bucket) (ranks : ranks_in after ≡ ranks_in bs) (idss : idss_in after ≡ slice_set (idss_in bs) at []) where
+      held_after : held_in after ≡ held_by (ranks_in bs) (slice_set (idss_in bs) at [])
+      held_after = ap (λ (rs : List Rank). held_by rs (idss_in after)) ranks ∙ ap (held_by (ranks_in bs)) idss
 
-    pub roomy_taken : (most now : ℕ) → AreRoomy most bs → most ≤ now → AreRoomy now after
-    roomy_taken most now room upto i = elim (cases_eq i at) [
-      | inl here ↦ omega (arith, ap length (ap (λ (js : List (List ℕ)). ids_at js i) idss ∙ ap (ids_at (slice_set (idss_in bs) at [])) here ∙ get_or-set_same (idss_in bs) at [] [] (omega (arith, next.inside, length-map bs (λ (c : Bucket). ids_of c.ids)))))
-      | inr apart ↦ omega (arith, room i, upto, ap length (ap (λ (js : List (List ℕ)). ids_at js i) idss ∙ get_or-set_other (idss_in bs) at i [] [] apart))
-    ]
+      still_there : (r : Rank) (q : ℕ) → Contains (held_in after) (r, q) → Contains (held_in bs) (r, q)
+      still_there r q c =
+          let r_at : Rank = rank_at (ranks_in bs) at in
+          let class : List (Rank × ℕ) = ranked r_at (ids_at (idss_in bs) at) in
+          let rest : List (Rank × ℕ) = held_by (ranks_in bs) (slice_set (idss_in bs) at []) in
+          Contains-permutation (class ++ rest) (held_in bs) (r, q) (IsPermutation-sym (held_in bs) (class ++ rest) (held_less (ranks_in bs) (idss_in bs) at at_in as_many))
+          (Contains-append_right class rest (r, q) (subst (λ (hs : List (Rank × ℕ)). Contains hs (r, q)) held_after c))
 
-    pub popped_at : (heads : List ℕ) → IsIndexed heads bs → Fits h a → (r : Rank) → rank_at (ranks_in bs) at ≡ r → (ids : List ℕ) → ids ≡ ids_at (idss_in bs) at → (marks : List Bool) (winners : List ℕ) (last : ℕ) → IsChosen a (Contains ids) won marks winners last → ((q : ℕ) → Contains ids q → HasEnds a q) → length won ≡ n * n → IsPopped h (record { vertices = n; held = held_in after; won = marks }) a r winners
-    popped_at heads indexed fits r rank ids are marks winners last chosen ends pairs =
-        let count : a.vertices ≡ n = fits.vertices ∙ sym (ap (λ (c : Classes). c.vertices) is) in
-        let rs : List Rank = ranks_in bs in
-        let at_in : at < length rs = omega (arith, next.inside, length-map bs rank_in) in
-        let taken : IsPopped (record { vertices = a.vertices; held = held_by rs (idss_in bs); won = won }) (record { vertices = a.vertices; held = held_by rs (slice_set (idss_in bs) at []); won = marks }) a (rank_at rs at) winners =
-        popped a rs (idss_in bs) at won marks winners last as_many indexed.once at_in next.some
-        (λ j inside some. next.least j (omega (arith, inside, length-map bs rank_in)) some)
-        (subst (λ (js : List ℕ). IsChosen a (Contains js) won marks winners last) are chosen)
-        (subst (λ (js : List ℕ). (q : ℕ) → Contains js q → HasEnds a q) are ends)
-        (pairs ∙ ap (λ k. k * k) (sym count)) in
-        subst (λ (c : Classes). IsPopped c (record { vertices = n; held = held_in after; won = marks }) a r winners) is
-        (subst (λ (k : Rank). IsPopped (record { vertices = n; held = held_in bs; won = won }) (record { vertices = n; held = held_in after; won = marks }) a k winners) rank
-        (subst (λ (hs : List (Rank × ℕ)). IsPopped (record { vertices = n; held = held_in bs; won = won }) (record { vertices = n; held = hs; won = marks }) a (rank_at rs at) winners) (ap (held_by rs) (sym idss) ∙ ap (λ (ks : List Rank). held_by ks (idss_in after)) (sym ranks))
-        (subst (λ (k : ℕ). IsPopped (record { vertices = k; held = held_in bs; won = won }) (record { vertices = k; held = held_by rs (slice_set (idss_in bs) at []); won = marks }) a (rank_at rs at) winners) count taken)))
+      pub fits_after : (marks : List Bool) → Fits (shown_by n after marks) a
+      fits_after marks = record {
+        vertices = fits.vertices;
+        live = λ r q c. fits.live r q (still_there r q c);
+        ranks = λ r q c. fits.ranks r q (still_there r q c);
+      }
+
+      pub popped_at : (r : Rank) → rank_at (ranks_in bs) at ≡ r → (marks : List Bool) (winners : List ℕ) (last : ℕ) → IsChosen a (Contains ids) won marks winners last → ((q : ℕ) → Contains ids q → EndsAreVertices a q) → length won ≡ n * n → (heads : List ℕ) → IsIndexed heads bs → IsNext bs at → IsPopped (shown_by n bs won) (shown_by n after marks) a r winners
+      popped_at r rank marks winners last chosen ends pairs heads indexed next =
+          let count : a.vertices ≡ n = fits.vertices in
+          let rs : List Rank = ranks_in bs in
+          let taken : IsPopped (record { vertices = a.vertices; held = held_by rs (idss_in bs); won = won }) (record { vertices = a.vertices; held = held_by rs (slice_set (idss_in bs) at []); won = marks }) a (rank_at rs at) winners =
+          popped a rs (idss_in bs) at won marks winners last as_many indexed.once at_in next.some
+          (λ j j_in some. next.least j (omega (arith, j_in, length-map bs rank_in)) some)
+          (subst (λ (js : List ℕ). IsChosen a (Contains js) won marks winners last) are chosen)
+          (subst (λ (js : List ℕ). (q : ℕ) → Contains js q → EndsAreVertices a q) are ends)
+          (pairs ∙ ap (λ k. k * k) (sym count)) in
+          subst (λ (k : Rank). IsPopped (shown_by n bs won) (shown_by n after marks) a k winners) rank
+          (subst (λ (hs : List (Rank × ℕ)). IsPopped (shown_by n bs won) (record { vertices = n; held = hs; won = marks }) a (rank_at rs at) winners) (sym held_after)
+          (subst (λ (k : ℕ). IsPopped (record { vertices = k; held = held_in bs; won = won }) (record { vertices = k; held = held_by rs (slice_set (idss_in bs) at []); won = marks }) a (rank_at rs at) winners) count taken))
+
+-- a bucket that was taken needs no turn, and no room
+module _ (bs after : List Bucket) (at : ℕ) (inside : at < length bs) (ranks : ranks_in after ≡ ranks_in bs) (idss : idss_in after ≡ slice_set (idss_in bs) at []) where
+  pub queue_taken : (turns : List Turn) → IsQueue turns bs → IsQueue turns after
+  queue_taken turns s =
+      subst (λ (rs : List Rank). AreTurns turns rs (idss_in after)) (sym ranks)
+      (subst (λ (js : List (List ℕ)). AreTurns turns (ranks_in bs) js) (sym idss) (turns_taken turns (ranks_in bs) (idss_in bs) at s (omega (arith, inside, length-map bs rank_in))))
+
+  pub roomy_taken : (most : ℕ) → AreRoomy most bs → AreRoomy most after
+  roomy_taken most room i = elim (cases_eq i at) [
+    | inl here ↦ omega (arith, ap length (ap (λ (js : List (List ℕ)). ids_at js i) idss ∙ ap (ids_at (slice_set (idss_in bs) at [])) here ∙ get_or-set_same (idss_in bs) at [] [] (omega (arith, inside, length-map bs (λ (c : Bucket). ids_of c.ids)))))
+    | inr apart ↦ omega (arith, room i, ap length (ap (λ (js : List (List ℕ)). ids_at js i) idss ∙ get_or-set_other (idss_in bs) at i [] [] apart))
+  ]

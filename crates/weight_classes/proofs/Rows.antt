@@ -1,4 +1,4 @@
--- Places in rows, by first and then by last vertex.
+-- For choose and class_at: places in rows, by first and then by last vertex.
 use Rattle.std.specs.Prelude.{◌≡◌, ℕ, ◌+◌, ◌*◌, ◌<◌, List, [], ◌∷◌, Option, Some, None, IsSome, unwrap_or, refl, Contains, length}
 use Rattle.std.specs.Ordering.{nat_cmp, ordering_then}
 use Rattle.std.specs.declared.cmp.Ordering.TheVariants.{Less}
@@ -11,7 +11,7 @@ use Rattle.std.proofs.lemmas.List.Elements.{Contains-append_right}
 use Rattle.apsp_model.specs.Walk.{first, last}
 use Rattle.path_arena.specs.Arena.{Arena, Path, IsArena, IsLive, path_at, list_of, no_path}
 use Rattle.weight_classes.specs.Classes.{first_of, last_of, SamePair, InOrder}
-use Rattle.weight_classes.specs.Choice.{place_of, HasEnds, AreRising}
+use Rattle.weight_classes.specs.Choice.{pair_place, EndsAreVertices, AreRising}
 
 one_row : (n x y u v : ℕ) → y < n → v < n → x * n + y ≡ u * n + v → x < u → ⊥
 one_row n x y u v y_in v_in e less = omega (arith, mul-add-lt x n y u less y_in)
@@ -67,20 +67,20 @@ some_by_first : (p : List ℕ) (x : ℕ) → first p ≡ Some x → 0 < length p
 some_by_first [] x e = cc
 some_by_first (z ∷ p) x e = omega arith
 
-pub ends_of_live : (a : Arena) (id x : ℕ) → IsArena a → IsLive a id → first (list_of a id) ≡ Some x → HasEnds a id
+pub ends_of_live : (a : Arena) (id x : ℕ) → IsArena a → IsLive a id → first (list_of a id) ≡ Some x → EndsAreVertices a id
 ends_of_live a id x lawful live e = (
   vertex_inside a id (first_of a id) lawful live (first_in (list_of a id) (some_by_first (list_of a id) x e)),
   vertex_inside a id (last_of a id) lawful live (last_in (list_of a id) (some_by_first (list_of a id) x e)),
 )
 
-pub place_inside : (a : Arena) (id : ℕ) → HasEnds a id → place_of a id < a.vertices * a.vertices
+pub place_inside : (a : Arena) (id : ℕ) → EndsAreVertices a id → pair_place a id < a.vertices * a.vertices
 place_inside a id ends = place_below a.vertices (first_of a id) (last_of a id) ends.0 ends.1
 
 -- ids of one place have one pair
-pub same_pair : (a : Arena) (p q : ℕ) → HasEnds a p → HasEnds a q → place_of a p ≡ place_of a q → SamePair a p q
+pub same_pair : (a : Arena) (p q : ℕ) → EndsAreVertices a p → EndsAreVertices a q → pair_place a p ≡ pair_place a q → SamePair a p q
 same_pair a p q ends_p ends_q same = one_place a.vertices (first_of a p) (last_of a p) (first_of a q) (last_of a q) ends_p.1 ends_q.1 same
 
-pub in_order : (a : Arena) (ids : List ℕ) → ((q : ℕ) → Contains ids q → HasEnds a q) → AreRising a ids → InOrder a ids
+pub in_order : (a : Arena) (ids : List ℕ) → ((q : ℕ) → Contains ids q → EndsAreVertices a q) → AreRising a ids → InOrder a ids
 in_order a [] ends h = tt
 in_order a (id ∷ ids) ends h = (
   λ q c. pair_before a.vertices (first_of a id) (last_of a id) (first_of a q) (last_of a q) (ends id (0, omega arith, refl)).1 (ends q (Contains-append_right (id ∷ []) ids q c)).1 (h.0 q c),

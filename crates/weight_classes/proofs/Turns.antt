@@ -1,11 +1,11 @@
--- The turns of the buckets: the first is of a bucket that ranks lowest.
-use Rattle.std.specs.Prelude.{◌≡◌, ℕ, ◌<◌, ◌⊎◌, true, false, List, [], ◌∷◌, ◌++◌, length, slice_set, refl, Contains}
+-- For next: the turns of the buckets, of which the first is of a bucket that ranks lowest.
+use Rattle.std.specs.Prelude.{◌≡◌, ℕ, ◌<◌, ◌⊎◌, true, false, List, [], ◌∷◌, ◌++◌, length, slice_index_or, slice_set, Option, None, Some, IsSome, IfSome, refl, Contains}
 use Rattle.std.specs.List.Sorted.{IsPermutation}
-use Rattle.std.specs.BinaryHeap.{IsHeap, PopsGreatest, lt_by_cmp}
+use Rattle.std.specs.BinaryHeap.{IsHeap, IsUpperBound, PopsGreatest, lt_by_cmp}
 use Rattle.std.specs.Ordering.{nat_cmp, ordering_then, is_lt}
 use Rattle.std.specs.declared.cmp.Ordering.TheVariants.{Less}
 use Rattle.std.proofs.Common.{sym, ◌∙◌, ap, subst, arith, inl, inr}
-use Rattle.std.proofs.lemmas.Bool.{cases_lt, cases_eq, true≢false}
+use Rattle.std.proofs.lemmas.Bool.{cases_lt, cases_eq, false≢true, true≢false}
 use Rattle.std.proofs.lemmas.Bool.Decides.{nat_tests}
 use Rattle.std.proofs.lemmas.Cmp.{nat_cmp_total, tied_itself}
 use Rattle.std.proofs.lemmas.List.{get_or_append_left, get_or_past, length_push, length-set, get_or-set_same, get_or-set_other}
@@ -28,73 +28,65 @@ lower_first r s i j h = elim h [
       ∙ ap (λ o. is_lt (ordering_then o (nat_cmp j i))) (numbers_less r.hops s.hops tie.1)
 ]
 
-module _ (turns : List Turn) (rs : List Rank) (idss : List (List ℕ)) (But : ℕ → Type 0) (s : AreTurns turns rs idss But) where
+-- the turn in front
+pub first_there : (turns : List Turn) (t : Turn) → 0 < length turns → t ≡ slice_index_or turns 0 t → Contains turns t
+first_there [] t some at = absurd (omega (arith, some))
+first_there (x ∷ turns) t some at = subst (Contains (x ∷ turns)) (sym at) (head_there x turns)
+
+one_first : (turns : List Turn) (t u : Turn) → 0 < length turns → t ≡ slice_index_or turns 0 t → u ≡ slice_index_or turns 0 u → t ≡ u
+one_first [] t u some t_at u_at = absurd (omega (arith, some))
+one_first (x ∷ turns) t u some t_at u_at = t_at ∙ sym u_at
+
+module _ (turns : List Turn) (rs : List Rank) (idss : List (List ℕ)) (s : AreTurns turns rs idss) where
   -- a turn is that of its bucket
   turn_is : (t : Turn) → Contains turns t → t ≡ turn_of (rank_at rs t.0.2) t.0.2
   turn_is t c = ap (λ (r : Rank). turn_of r t.0.2) (sym (s.known t c).1)
 
-  -- the first is taken
-  module _ (t : Turn) (rest : List Turn) (moved : IsPermutation turns (t ∷ rest)) (pops : PopsGreatest turn_cmp turns t rest) where
-    was_there : (u : Turn) → Contains rest u → Contains turns u
-    was_there u c = Contains-permutation (t ∷ rest) turns u (IsPermutation-sym turns (t ∷ rest) moved) (tail_there t rest u c)
+  -- no bucket with ids ranks lower than that of the first turn
+  pub first_least : (t : Turn) → Contains turns t → (IsHeap turn_cmp turns → IsUpperBound turn_cmp t turns) → (j : ℕ) → j < length rs → 0 < length (ids_at idss j) → IsLower (rank_at rs j) (rank_at rs t.0.2) → ⊥
+  first_least t here greatest j inside some lower =
+      let not_less : lt_by_cmp turn_cmp t (turn_of (rank_at rs j) j) ≡ false = All-contains (λ u. lt_by_cmp turn_cmp t u ≡ false) turns (turn_of (rank_at rs j) j) (All-from_recursion (λ u. lt_by_cmp turn_cmp t u ≡ false) turns (greatest s.ordered)) (s.each j inside some) in
+      true≢false (sym (lower_first (rank_at rs j) (rank_at rs t.0.2) t.0.2 j lower) ∙ ap (λ (u : Turn). lt_by_cmp turn_cmp u (turn_of (rank_at rs j) j)) (sym (turn_is t here)) ∙ not_less)
 
-    pub here : Contains turns t
-    here = Contains-permutation (t ∷ rest) turns t (IsPermutation-sym turns (t ∷ rest) moved) (head_there t rest)
+  -- the turn of a bucket without ids is dropped
+  turns_dropped : (t : Turn) (rest : List Turn) → IsPermutation turns (t ∷ rest) → PopsGreatest turn_cmp turns t rest → length (ids_at idss t.0.2) ≡ 0 → AreTurns rest rs idss
+  turns_dropped t rest moved pops none = record {
+    ordered = (pops s.ordered).0;
+    many = s.many;
+    known = λ u c. s.known u (Contains-permutation (t ∷ rest) turns u (IsPermutation-sym turns (t ∷ rest) moved) (tail_there t rest u c));
+    each = λ i inside some. elim (in_cons t rest (turn_of (rank_at rs i) i) (Contains-permutation turns (t ∷ rest) (turn_of (rank_at rs i) i) moved (s.each i inside some))) [
+      | inl same ↦ absurd (omega (arith, some, none, ap (λ (u : Turn). length (ids_at idss u.0.2)) same))
+      | inr more ↦ more
+    ];
+  }
 
-    pub rest_turns : ((i : ℕ) → But i → i ≡ t.0.2) → AreTurns rest rs idss (λ i. i ≡ t.0.2)
-    rest_turns but = record {
-      ordered = (pops s.ordered).0;
-      many = s.many;
-      known = λ u c. s.known u (was_there u c);
-      each = λ i inside some. elim (s.each i inside some) [
-        | inl left ↦ inl (but i left)
-        | inr c ↦ elim (in_cons t rest (turn_of (rank_at rs i) i) (Contains-permutation turns (t ∷ rest) (turn_of (rank_at rs i) i) moved c)) [
-          | inl same ↦ inl (ap (λ (u : Turn). u.0.2) (sym same))
-          | inr more ↦ inr more
-        ]
-      ];
-    }
-
-    pub first_least : (j : ℕ) → j < length rs → 0 < length (ids_at idss j) → (But j → ⊥) → IsLower (rank_at rs j) (rank_at rs t.0.2) → ⊥
-    first_least j inside some left lower = elim (s.each j inside some) [
-      | inl but ↦ left but
-      | inr c ↦
-          let not_less : lt_by_cmp turn_cmp t (turn_of (rank_at rs j) j) ≡ false = All-contains (λ u. lt_by_cmp turn_cmp t u ≡ false) turns (turn_of (rank_at rs j) j) (All-from_recursion (λ u. lt_by_cmp turn_cmp t u ≡ false) turns (pops s.ordered).1) c in
-          true≢false (sym (lower_first (rank_at rs j) (rank_at rs t.0.2) t.0.2 j lower) ∙ ap (λ (u : Turn). lt_by_cmp turn_cmp u (turn_of (rank_at rs j) j)) (sym (turn_is t here)) ∙ not_less)
-    ]
-
--- a bucket without ids needs no turn
-pub turns_empty : (turns : List Turn) (rs : List Rank) (idss : List (List ℕ)) (at : ℕ) → AreTurns turns rs idss (λ i. i ≡ at) → length (ids_at idss at) ≡ 0 → AreTurns turns rs idss (λ i. ⊥)
-turns_empty turns rs idss at s none = record {
-  ordered = s.ordered;
-  many = s.many;
-  known = s.known;
-  each = λ i inside some. elim (s.each i inside some) [ inl is ↦ absurd (omega (arith, some, none, ap (λ j. length (ids_at idss j)) is)) | inr c ↦ inr c ];
-}
+  pub first_dropped : (r : Option Turn) (t : Turn) (rest : List Turn) → IsSome r → 0 < length turns → t ≡ slice_index_or turns 0 t → IfSome r (λ u. u ≡ slice_index_or turns 0 u) → IfSome r (λ u. IsPermutation turns (u ∷ rest)) → IfSome r (λ u. PopsGreatest turn_cmp turns u rest) → length (ids_at idss t.0.2) ≡ 0 → AreTurns rest rs idss
+  first_dropped None t rest is_some some t_at u_at moved pops none = absurd (false≢true is_some)
+  first_dropped (Some u) t rest is_some some t_at u_at moved pops none = turns_dropped u rest moved pops (ap (λ (v : Turn). length (ids_at idss v.0.2)) (sym (one_first turns t u some t_at u_at)) ∙ none)
 
 -- the ids of one bucket are taken
-pub turns_taken : (turns : List Turn) (rs : List Rank) (idss : List (List ℕ)) (at : ℕ) → AreTurns turns rs idss (λ i. i ≡ at) → at < length rs → AreTurns turns rs (slice_set idss at []) (λ i. ⊥)
-turns_taken turns rs idss at s inside = turns_empty turns rs (slice_set idss at []) at (record {
+pub turns_taken : (turns : List Turn) (rs : List Rank) (idss : List (List ℕ)) (at : ℕ) → AreTurns turns rs idss → at < length rs → AreTurns turns rs (slice_set idss at [])
+turns_taken turns rs idss at s inside = record {
   ordered = s.ordered;
   many = length-set idss at [] ∙ s.many;
   known = s.known;
   each = λ i in_i some. elim (cases_eq i at) [
-    | inl is ↦ inl is
+    | inl is ↦ absurd (omega (arith, some, ap (λ j. length (ids_at (slice_set idss at []) j)) is, ap length (get_or-set_same idss at [] [] (omega (arith, inside, s.many)))))
     | inr apart ↦ s.each i in_i (omega (arith, some, ap length (get_or-set_other idss at i [] [] apart)))
   ];
-}) (ap length (get_or-set_same idss at [] [] (omega (arith, inside, s.many))))
+}
 
-pub turns_end : (turns : List Turn) (rs : List Rank) (idss : List (List ℕ)) → AreTurns turns rs idss (λ i. ⊥) → turns ≡ [] → (i : ℕ) → length (ids_at idss i) ≡ 0
+pub turns_end : (turns : List Turn) (rs : List Rank) (idss : List (List ℕ)) → AreTurns turns rs idss → turns ≡ [] → (i : ℕ) → length (ids_at idss i) ≡ 0
 turns_end turns rs idss s none i = elim (cases_lt i (length idss)) [
   | inl inside ↦ elim (cases_lt 0 (length (ids_at idss i))) [
-    | inl some ↦ elim (s.each i (omega (arith, inside, s.many)) some) [ inl gone ↦ absurd gone | inr c ↦ absurd (let l : c.0 < length turns = c.1 in omega (arith, l, ap length none)) ]
+    | inl some ↦ let c : Contains turns (turn_of (rank_at rs i) i) = s.each i (omega (arith, inside, s.many)) some in let l : c.0 < length turns = c.1 in absurd (omega (arith, l, ap length none))
     | inr empty ↦ omega (arith, empty)
   ]
   | inr past ↦ ap length (get_or_past idss i [] past)
 ]
 
 -- a bucket without ids more
-pub turns_bucket : (turns : List Turn) (rs : List Rank) (idss : List (List ℕ)) (r : Rank) → AreTurns turns rs idss (λ i. ⊥) → AreTurns turns (rs ++ r ∷ []) (idss ++ [] ∷ []) (λ i. ⊥)
+pub turns_bucket : (turns : List Turn) (rs : List Rank) (idss : List (List ℕ)) (r : Rank) → AreTurns turns rs idss → AreTurns turns (rs ++ r ∷ []) (idss ++ [] ∷ [])
 turns_bucket turns rs idss r s = record {
   ordered = s.ordered;
   many = omega (arith, s.many, length_push rs r, length_push idss []);
@@ -104,13 +96,13 @@ turns_bucket turns rs idss r s = record {
       elim (cases_lt i (length idss)) [
         | inl old ↦
             let old_r : i < length rs = omega (arith, old, s.many) in
-            elim (s.each i old_r was) [ inl gone ↦ absurd gone | inr c ↦ inr (subst (λ (k : Rank). Contains turns (turn_of k i)) (sym (get_or_append_left rs (r ∷ []) no_rank i old_r)) c) ]
+            subst (λ (k : Rank). Contains turns (turn_of k i)) (sym (get_or_append_left rs (r ∷ []) no_rank i old_r)) (s.each i old_r was)
         | inr past ↦ absurd (omega (arith, was, ap length (get_or_past idss i [] past)))
       ];
 }
 
 -- one id more in a bucket that has a turn
-pub turns_more : (turns : List Turn) (rs : List Rank) (idss : List (List ℕ)) (at id : ℕ) → AreTurns turns rs idss (λ i. ⊥) → at < length rs → (now : List Turn) → IsHeap turn_cmp now → ((t : Turn) → Contains now t → Contains turns t ⊎ (t ≡ turn_of (rank_at rs at) at)) → ((t : Turn) → Contains turns t → Contains now t) → Contains now (turn_of (rank_at rs at) at) → (ids : List ℕ) → AreTurns now rs (slice_set idss at ids) (λ i. ⊥)
+pub turns_more : (turns : List Turn) (rs : List Rank) (idss : List (List ℕ)) (at id : ℕ) → AreTurns turns rs idss → at < length rs → (now : List Turn) → IsHeap turn_cmp now → ((t : Turn) → Contains now t → Contains turns t ⊎ (t ≡ turn_of (rank_at rs at) at)) → ((t : Turn) → Contains turns t → Contains now t) → Contains now (turn_of (rank_at rs at) at) → (ids : List ℕ) → AreTurns now rs (slice_set idss at ids)
 turns_more turns rs idss at id s inside now ordered from into there ids = record {
   ordered = ordered;
   many = length-set idss at ids ∙ s.many;
@@ -119,7 +111,7 @@ turns_more turns rs idss at id s inside now ordered from into there ids = record
     | inr is ↦ subst (λ (u : Turn). (u.0.2 < length rs) × (rank_at rs u.0.2 ≡ record { weight = u.0.0; hops = u.0.1 })) (sym is) (inside, refl)
   ];
   each = λ i in_i some. elim (cases_eq i at) [
-    | inl is ↦ inr (subst (λ j. Contains now (turn_of (rank_at rs j) j)) (sym is) there)
-    | inr apart ↦ elim (s.each i in_i (omega (arith, some, ap length (get_or-set_other idss at i ids [] apart)))) [ inl gone ↦ absurd gone | inr c ↦ inr (into (turn_of (rank_at rs i) i) c) ]
+    | inl is ↦ subst (λ j. Contains now (turn_of (rank_at rs j) j)) (sym is) there
+    | inr apart ↦ into (turn_of (rank_at rs i) i) (s.each i in_i (omega (arith, some, ap length (get_or-set_other idss at i ids [] apart))))
   ];
 }

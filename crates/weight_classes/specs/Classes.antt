@@ -23,10 +23,15 @@ pub record Classes : Type 0 where
   pub won : List Bool
 
 abbrev pub rank_code : Coded Rank
-rank_code = code_by (ℕ × ℕ) (coded× coded_ℕ coded_ℕ) (λ r. (r.weight, r.hops)) (λ t. record { weight = t.0; hops = t.1 }) (λ _. refl)
+rank_code =
+    code_by (ℕ × ℕ) (coded× coded_ℕ coded_ℕ) (λ r. (r.weight, r.hops)) (λ t. record { weight = t.0; hops = t.1 })
+    (λ _. refl)
 
 abbrev pub classes_code : Coded Classes
-classes_code = code_by (ℕ × (List (Rank × ℕ) × List Bool)) (coded× coded_ℕ (coded× (coded_list (coded× rank_code coded_ℕ)) (coded_list coded_bool))) (λ c. (c.vertices, (c.held, c.won))) (λ t. record { vertices = t.0; held = t.1.0; won = t.1.1 }) (λ _. refl)
+classes_code =
+    code_by (ℕ × (List (Rank × ℕ) × List Bool))
+    (coded× coded_ℕ (coded× (coded_list (coded× rank_code coded_ℕ)) (coded_list coded_bool)))
+    (λ c. (c.vertices, (c.held, c.won))) (λ t. record { vertices = t.0; held = t.1.0; won = t.1.1 }) (λ _. refl)
 
 abbrev pub IsWon : Classes → ℕ → ℕ → Type 0
 IsWon c x y = slice_index_or c.won (x * c.vertices + y) false ≡ true
@@ -85,7 +90,8 @@ pub record IsWinners (a : Arena) (won : ℕ → ℕ → Type 0) (Taken : ℕ →
 abbrev pub ranked : Rank → List ℕ → List (Rank × ℕ)
 ranked r ids = map (λ id. (r, id)) ids
 
--- what was held is the class, which has this rank, and what is still held, which ranks higher; the pairs of the winners are won
+-- what was held is the class, which has this rank, and what is still held, which ranks higher; the pairs of the winners
+-- are won
 pub record IsPopped (old new : Classes) (a : Arena) (rank : Rank) (winners : List ℕ) : Type 0 where
   pub class : List ℕ
   pub some : 0 < length class
@@ -93,7 +99,8 @@ pub record IsPopped (old new : Classes) (a : Arena) (rank : Rank) (winners : Lis
   pub above : (r : Rank) (id : ℕ) → IsHeld new r id → IsLower rank r
   pub are_winners : IsWinners a (IsWon old) (Contains class) winners
   pub vertices : new.vertices ≡ old.vertices
-  pub won : (x y : ℕ) → x < old.vertices → y < old.vertices → IsWon new x y ↔ (IsWon old x y ⊎ ((w : ℕ) × Contains winners w × (first_of a w ≡ x) × (last_of a w ≡ y)))
+  pub won : (x y : ℕ) → x < old.vertices → y < old.vertices → IsWon new x y
+      ↔ (IsWon old x y ⊎ ((w : ℕ) × Contains winners w × (first_of a w ≡ x) × (last_of a w ≡ y)))
 
 -- the two arenas have as many vertices, and each held id is live in the second with the rank that it has in the first
 pub record AgreeOnHeld (c : Classes) (a b : Arena) : Type 0 where

@@ -1,5 +1,5 @@
 -- How the fields of classes show what they hold. No public clause cites this module.
-use Rattle.std.specs.Prelude.{◌≡◌, ℕ, ◌+◌, ◌-◌, ◌*◌, ◌<◌, ◌≤◌, ◌≢◌, ◌⊎◌, ◌/◌, ◌%◌, bit_and, List, [], ◌∷◌, ◌++◌, length, map, vec_len, vec_capacity, slice_index, slice_index_or, Contains}
+use Rattle.std.specs.Prelude.{◌≡◌, ℕ, ◌+◌, ◌-◌, ◌*◌, ◌<◌, ◌≤◌, ◌≢◌, ◌⊎◌, ◌/◌, ◌%◌, Bool, bit_and, List, [], ◌∷◌, ◌++◌, length, map, vec_len, vec_capacity, slice_index, slice_index_or, Contains}
 use Rattle.std.specs.BinaryHeap.{IsHeap, heap_items}
 use Rattle.std.specs.Ordering.{nat_cmp, ordering_then}
 use Rattle.std.specs.declared.cmp.Ordering.{Ordering}
@@ -42,8 +42,12 @@ held_by (r ∷ rs) (ids ∷ idss) = ranked r ids ++ held_by rs idss
 abbrev pub held_in : List Bucket → List (Rank × ℕ)
 held_in bs = held_by (ranks_in bs) (idss_in bs)
 
+-- what buckets and marks show
+abbrev pub shown_by : ℕ → List Bucket → List Bool → Classes
+shown_by n bs won = record { vertices = n; held = held_in bs; won = won }
+
 abbrev pub view_of : Inside → Classes
-view_of c = record { vertices = c.n; held = held_in c.buckets.items; won = c.won.items }
+view_of c = shown_by c.n c.buckets.items c.won.items
 
 -- no bucket has more ids than this
 abbrev pub AreRoomy : ℕ → List Bucket → Type 0
@@ -57,13 +61,16 @@ IsBucketAdded old new = (new ≡ old) ⊎ ((b : Bucket) × (ids_of b.ids ≡ [])
 
 -- the cell of a rank
 unfoldable pub cell_of : ℕ → Rank → ℕ
-cell_of cells r = bit_and ((r.weight + r.hops) % 18446744073709551616 * 11400714819323198485 % 18446744073709551616 / 4294967296) (cells - 1)
+cell_of cells r =
+    bit_and ((r.weight + r.hops) % 18446744073709551616 * 11400714819323198485 % 18446744073709551616 / 4294967296)
+    (cells - 1)
 
 -- p is the last bucket of the cell below m, or none is
 abbrev pub IsLatest : ℕ → List Rank → ℕ → ℕ → ℕ → Type 0
 IsLatest cells rs cell p m =
     ((p ≡ NO_BUCKET) × ((j : ℕ) → j < m → cell_of cells (rank_at rs j) ≢ cell))
-    ⊎ ((p < m) × (cell_of cells (rank_at rs p) ≡ cell) × ((j : ℕ) → p < j → j < m → cell_of cells (rank_at rs j) ≢ cell))
+    ⊎ ((p < m) × (cell_of cells (rank_at rs p) ≡ cell)
+    × ((j : ℕ) → p < j → j < m → cell_of cells (rank_at rs j) ≢ cell))
 
 pub record AreIndexed (cells : ℕ) (heads : List ℕ) (rs : List Rank) (nexts : List ℕ) : Type 0 where
   pub some : 0 < cells
@@ -89,22 +96,23 @@ turn_cmp x y = ordering_then (ordering_then (nat_cmp y.0.0 x.0.0) (nat_cmp y.0.1
 abbrev pub turn_of : Rank → ℕ → Turn
 turn_of r i = record { 0 = (r.weight, r.hops, i) }
 
--- the turns are of buckets, and each bucket with an id has one, but perhaps the one that But names
-pub record AreTurns (turns : List Turn) (rs : List Rank) (idss : List (List ℕ)) (But : ℕ → Type 0) : Type 0 where
+-- the turns are of buckets, and each bucket with an id has one
+pub record AreTurns (turns : List Turn) (rs : List Rank) (idss : List (List ℕ)) : Type 0 where
   pub ordered : IsHeap turn_cmp turns
   pub many : length idss ≡ length rs
-  pub known : (t : Turn) → Contains turns t → (t.0.2 < length rs) × (rank_at rs t.0.2 ≡ record { weight = t.0.0; hops = t.0.1 })
-  pub each : (i : ℕ) → i < length rs → 0 < length (ids_at idss i) → But i ⊎ Contains turns (turn_of (rank_at rs i) i)
+  pub known : (t : Turn) → Contains turns t
+      → (t.0.2 < length rs) × (rank_at rs t.0.2 ≡ record { weight = t.0.0; hops = t.0.1 })
+  pub each : (i : ℕ) → i < length rs → 0 < length (ids_at idss i) → Contains turns (turn_of (rank_at rs i) i)
 
 abbrev pub IsQueue : List Turn → List Bucket → Type 0
-IsQueue turns bs = AreTurns turns (ranks_in bs) (idss_in bs) (λ i. ⊥)
+IsQueue turns bs = AreTurns turns (ranks_in bs) (idss_in bs)
 
--- i is a bucket with ids, and each with ids ranks as high or higher; it has no turn any more
-pub record IsNext (turns : List Turn) (bs : List Bucket) (i : ℕ) : Type 0 where
+-- i is a bucket with ids, and each with ids ranks as high or higher
+pub record IsNext (bs : List Bucket) (i : ℕ) : Type 0 where
   pub inside : i < length bs
   pub some : 0 < length (ids_at (idss_in bs) i)
-  pub least : (j : ℕ) → j < length bs → 0 < length (ids_at (idss_in bs) j) → IsLower (rank_at (ranks_in bs) j) (rank_at (ranks_in bs) i) → ⊥
-  pub queue : AreTurns turns (ranks_in bs) (idss_in bs) (λ j. j ≡ i)
+  pub least : (j : ℕ) → j < length bs → 0 < length (ids_at (idss_in bs) j)
+      → IsLower (rank_at (ranks_in bs) j) (rank_at (ranks_in bs) i) → ⊥
 
 abbrev pub AreEmpty : List Bucket → Type 0
 AreEmpty bs = (i : ℕ) → length (ids_at (idss_in bs) i) ≡ 0

@@ -3,7 +3,7 @@
 ghost use Rattle.std.specs.Prelude.{◌≡◌, ◌≢◌, ℕ, List, ◌+◌, ◌<◌, ◌≤◌, [], ◌∷◌, ◌++◌, IfOk, IfSome, IfNone, OnOk, OnErr, MatchOption, length, vec_capacity, map, slice_set};
 ghost use Rattle.std.specs.BinaryHeap.{heap_items};
 ghost use Rattle.weight_classes.specs.Ids.{ids_of};
-ghost use Rattle.weight_classes.specs.Inside.{AreEmpty, AreRoomy, IsIndexed, IsNext, IsQueue, IsBucketAdded, cell_of, idss_in, ids_at, rank_at, ranks_in};
+ghost use Rattle.weight_classes.specs.Inside.{AreEmpty, AreRoomy, IsIndexed, IsNext, IsQueue, IsBucketAdded, Turn, cell_of, idss_in, ids_at, rank_at, ranks_in};
 
 use crate::choice::Key;
 use crate::ids::Ids;
@@ -44,8 +44,10 @@ fn cell(cells: usize, weight: u64, hops: u32) -> usize
 /// The bucket of a weight and number of edges.
 fn find(heads: &[u32], buckets: &[Bucket], weight: u64, hops: u32) -> Option<u32>
     requires { IsIndexed heads.now buckets.now }
-    ensures some { IfSome result (λ i. (i < length buckets.now) × (rank_at (ranks_in buckets.now) i ≡ record { weight = weight; hops = hops })) }
-    ensures none { IfNone result ((i : ℕ) → i < length buckets.now → rank_at (ranks_in buckets.now) i ≢ record { weight = weight; hops = hops }) }
+    ensures some { IfSome result
+        (λ i. (i < length buckets.now) × (rank_at (ranks_in buckets.now) i ≡ record { weight = weight; hops = hops })) }
+    ensures none { IfNone result ((i : ℕ) → i < length buckets.now → rank_at (ranks_in buckets.now) i
+        ≢ record { weight = weight; hops = hops }) }
 {
     let mut at = heads[cell(heads.len(), weight, hops)];
     'chain: while at != NO_BUCKET {
@@ -66,7 +68,9 @@ pub(crate) fn bucket_of(
     hops: u32,
 ) -> Result<u32, Memory>
     requires { IsIndexed heads.old.items buckets.old.items }
-    ensures bucket { IfOk result (λ i. (i < length buckets.new.items) × (rank_at (ranks_in buckets.new.items) i ≡ record { weight = weight; hops = hops })) }
+    ensures bucket { IfOk result
+        (λ i. (i < length buckets.new.items) × (rank_at (ranks_in buckets.new.items) i
+        ≡ record { weight = weight; hops = hops })) }
     ensures added { IsBucketAdded buckets.old.items buckets.new.items }
     ensures indexed { IsIndexed heads.new.items buckets.new.items }
 {
@@ -102,7 +106,9 @@ pub(crate) fn hold(
     requires room { AreRoomy (vec_capacity keys.old) buckets.old.items }
     ensures ranks { ranks_in buckets.new.items ≡ ranks_in buckets.old.items }
     ensures same { (heads : List ℕ) → IsIndexed heads buckets.old.items → IsIndexed heads buckets.new.items }
-    ensures ok { OnOk result (idss_in buckets.new.items ≡ slice_set (idss_in buckets.old.items) at (ids_at (idss_in buckets.old.items) at ++ id ∷ [])) }
+    ensures ok { OnOk result
+        (idss_in buckets.new.items ≡ slice_set (idss_in buckets.old.items) at (ids_at (idss_in buckets.old.items) at
+        ++ id ∷ [])) }
     ensures err { OnErr result (idss_in buckets.new.items ≡ idss_in buckets.old.items) }
     ensures queue { IsQueue (heap_items queue.new) buckets.new.items }
     ensures room { AreRoomy (vec_capacity keys.new) buckets.new.items }
@@ -131,28 +137,32 @@ fn put(ids: &mut Ids, keys: &mut Vec<Key>, id: PathId) -> Result<(), Memory>
     ids.push(*keys.allocator(), id)
 }
 
-/// The bucket of the least weight that has the fewest edges among those that hold an id.
+/// The bucket of the least weight that has the fewest edges among those that hold an id. Its turn stays until it
+/// holds none, and is dropped by the call behind that.
 pub(crate) fn next(queue: &mut Queue, buckets: &[Bucket]) -> Option<u32>
     requires { IsQueue (heap_items queue.old) buckets.now }
-    ensures some { IfSome result (IsNext (heap_items queue.new) buckets.now) }
+    ensures some { IfSome result (IsNext buckets.now) }
     ensures none { IfNone result (AreEmpty buckets.now) }
-    ensures queue { IfNone result (IsQueue (heap_items queue.new) buckets.now) }
+    ensures queue { IsQueue (heap_items queue.new) buckets.now }
 {
-    'turns: while let Some(Reverse((_, _, at))) = queue.pop() {
+    'turns: while let Some(&Reverse((_, _, at))) = queue.peek() {
         if !buckets[at as usize].ids.is_empty() {
             return Some(at);
         }
+        let _ = queue.pop();
     }
     None
 }
 
-/// Takes the ids of a bucket.
+/// Takes the ids of a bucket. It may keep its turn.
 pub(crate) fn take(buckets: &mut Vec<Bucket>, at: u32) -> Ids
     requires { at < length buckets.old.items }
     ensures ids { ids_of result ≡ ids_at (idss_in buckets.old.items) at }
     ensures ranks { ranks_in buckets.new.items ≡ ranks_in buckets.old.items }
     ensures idss { idss_in buckets.new.items ≡ slice_set (idss_in buckets.old.items) at [] }
     ensures same { (heads : List ℕ) → IsIndexed heads buckets.old.items → IsIndexed heads buckets.new.items }
+    ensures queue { (turns : List Turn) → IsQueue turns buckets.old.items → IsQueue turns buckets.new.items }
+    ensures room { (most : ℕ) → AreRoomy most buckets.old.items → AreRoomy most buckets.new.items }
 {
     std::mem::replace(&mut buckets[at as usize].ids, Ids::Empty)
 }

@@ -4,7 +4,7 @@ ghost use Rattle.std.specs.Prelude.{◌≡◌, ℕ, ◌∷◌, [], ◌+◌, ◌*
 ghost use Rattle.path_arena.specs.Arena.{IsLive};
 ghost use Rattle.smallvec.specs.SmallVec.{small_vec_len, HasRoomFor};
 ghost use Rattle.weight_classes.specs.Ids.{ids_of};
-ghost use Rattle.weight_classes.specs.Choice.{AreKeys, IsChosen, HasEnds, IsConsidered, key_of};
+ghost use Rattle.weight_classes.specs.Choice.{AreKeys, IsChosen, EndsAreVertices, IsConsidered, key_of};
 
 use crate::ids::{Ids, List};
 use path_arena::{Arena, PathId};
@@ -37,7 +37,7 @@ fn make_key(arena: &Arena, n: u32, id: PathId) -> Key
     requires vertices { arena.now.vertices ≡ n }
     requires live { IsLive arena.now id }
     ensures is { result ≡ key_of arena.now id }
-    ensures ends { HasEnds arena.now id }
+    ensures ends { EndsAreVertices arena.now id }
 {
     Key {
         place: arena.first(id) as usize * n as usize + arena.last(id) as usize,
@@ -57,8 +57,9 @@ pub(crate) fn winners(
     requires live { (q : ℕ) → Contains (ids_of ids) q → IsLive arena.now q }
     requires room { length (ids_of ids) ≤ vec_capacity keys.old }
     requires pairs { vec_len won.old ≡ arena.now.vertices * arena.now.vertices }
-    ensures chosen { (last : ℕ) × IsChosen arena.now (Contains (ids_of ids)) won.old.items won.new.items (ids_of result) last }
-    ensures ends { (q : ℕ) → Contains (ids_of ids) q → HasEnds arena.now q }
+    ensures chosen { (last : ℕ)
+        × IsChosen arena.now (Contains (ids_of ids)) won.old.items won.new.items (ids_of result) last }
+    ensures ends { (q : ℕ) → Contains (ids_of ids) q → EndsAreVertices arena.now q }
     ensures capacity { vec_capacity keys.old ≤ vec_capacity keys.new }
 {
     match ids {
@@ -76,8 +77,9 @@ fn only(won: &mut Vec<bool>, arena: &Arena, n: u32, id: PathId) -> Ids
     requires vertices { arena.now.vertices ≡ n }
     requires live { IsLive arena.now id }
     requires pairs { vec_len won.old ≡ arena.now.vertices * arena.now.vertices }
-    ensures chosen { (last : ℕ) × IsChosen arena.now (Contains (id ∷ [])) won.old.items won.new.items (ids_of result) last }
-    ensures ends { HasEnds arena.now id }
+    ensures chosen { (last : ℕ)
+        × IsChosen arena.now (Contains (id ∷ [])) won.old.items won.new.items (ids_of result) last }
+    ensures ends { EndsAreVertices arena.now id }
 {
     let key = make_key(arena, n, id);
     if won[key.place] {

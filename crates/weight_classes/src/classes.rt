@@ -1,8 +1,9 @@
 //! The held ids by weight and number of edges.
 
-ghost use Rattle.std.specs.Prelude.{replicate, false, ◌≡◌, ◌≢◌, ℕ, ◌+◌, ◌*◌, ◌<◌, ◌≤◌, ◌⊎◌, ◌↔◌, [], IfOk, OnOk, OnErr, MatchOption, IfNone, Contains, length, vec_len, vec_capacity, slice_index, ◌∷◌, ◌++◌};
+ghost use Rattle.std.specs.Prelude.{replicate, false, ◌≡◌, ◌≢◌, ℕ, ◌+◌, ◌*◌, ◌<◌, ◌≤◌, ◌⊎◌, ◌↔◌, [], IfOk, OnOk, OnErr, MatchOption, IfNone, List, Contains, length, vec_len, vec_capacity, slice_index, ◌∷◌, ◌++◌};
 ghost use Rattle.path_arena.specs.Arena.{Arena as Paths, IsLive};
 ghost use Rattle.weight_classes.specs.Classes.{Fits, IsHeld, IsPopped, IsPushed, IsWon, Rank};
+ghost use Rattle.weight_classes.specs.Inside.{AreRoomy, IsIndexed, IsNext, IsQueue, Turn, shown_by};
 ghost use Rattle.weight_classes.specs.declared.buckets.TheConstants.{NO_BUCKET};
 
 use crate::buckets::{Bucket, NO_BUCKET, Queue, bucket_of, hold, next, rank, take};
@@ -135,19 +136,54 @@ impl Classes {
     /// them that was not won the least id wins, and the pair is won.
     pub fn pop_class(&mut self, arena: &Arena) -> Option<Class>
         requires fits { Fits self.old arena.now }
-        ensures class { MatchOption result (self.old.held ≡ []) (λ c. IsPopped self.old self.new arena.now c.rank c.winners) }
+        ensures class { MatchOption result (self.old.held ≡ [])
+            (λ c. IsPopped self.old self.new arena.now c.rank c.winners) }
         ensures none { IfNone result (self.new ≡ self.old) }
         ensures fits { Fits self.new arena.now }
     {
         let at = next(&mut self.queue, &self.buckets)?;
-        let (weight, hops) = rank(&self.buckets, at);
-        let ids = take(&mut self.buckets, at);
-        let winners = winners(&mut self.keys, &mut self.won, arena, self.n, ids);
-        Some(Class {
-            weight,
-            hops,
-            winners,
-        })
+        let class = class_at(
+            &mut self.buckets,
+            &mut self.keys,
+            &mut self.won,
+            arena,
+            self.n,
+            at,
+        );
+        Some(class)
+    }
+}
+
+/// Takes the ids of a bucket, whichever it is, and makes the pairs of the winners among them won.
+fn class_at(
+    buckets: &mut Vec<Bucket>,
+    keys: &mut Vec<Key>,
+    won: &mut Vec<bool>,
+    arena: &Arena,
+    n: u32,
+    at: u32,
+) -> Class
+    requires vertices { arena.now.vertices ≡ n }
+    requires inside { at < length buckets.old.items }
+    requires fits { Fits (shown_by n buckets.old.items won.old.items) arena.now }
+    requires room { AreRoomy (vec_capacity keys.old) buckets.old.items }
+    requires pairs { vec_len won.old ≡ n * n }
+    ensures popped { (heads : List ℕ) → IsIndexed heads buckets.old.items → IsNext buckets.old.items at
+        → IsPopped (shown_by n buckets.old.items won.old.items)
+        (shown_by n buckets.new.items won.new.items) arena.now result.rank result.winners }
+    ensures fits { Fits (shown_by n buckets.new.items won.new.items) arena.now }
+    ensures same { (heads : List ℕ) → IsIndexed heads buckets.old.items → IsIndexed heads buckets.new.items }
+    ensures queue { (turns : List Turn) → IsQueue turns buckets.old.items → IsQueue turns buckets.new.items }
+    ensures room { AreRoomy (vec_capacity keys.new) buckets.new.items }
+    ensures pairs { vec_len won.new ≡ vec_len won.old }
+{
+    let (weight, hops) = rank(buckets, at);
+    let ids = take(buckets, at);
+    let winners = winners(keys, won, arena, n, ids);
+    Class {
+        weight,
+        hops,
+        winners,
     }
 }
 
