@@ -1,4 +1,4 @@
--- The paths through v are forgotten from the longest on.
+-- For forget_all: the paths through v are forgotten from the longest on.
 use Rattle.std.specs.Prelude.{◌≡◌, ◌≢◌, ℕ, true, ◌<◌, ◌≤◌, ◌⊎◌, List, [], ◌∷◌, ◌++◌, length, Some, is_some, unwrap_or, refl, Contains}
 use Rattle.std.proofs.Common.{sym, ◌∙◌, ap, subst, arith, inl, inr}
 use Rattle.std.proofs.lemmas.List.Elements.{Contains-append_left, Contains-append_right, Contains-append_cases}
@@ -7,7 +7,8 @@ use Rattle.apsp_model.specs.Local.{Avoids}
 use Rattle.apsp_model.specs.Paths.{KeptPath}
 use Rattle.apsp_model.specs.Settled.{IsCleaned}
 use Rattle.apsp_model.proofs.Simples.{contained_or_not}
-use Rattle.fixup_math.proofs.Counting.{in_cons, in_nil, head_in, tail_in}
+use Rattle.apsp_model.proofs.Members.{in_cons, in_nil, head_in, tail_in}
+use Rattle.apsp_model.proofs.Lists.{in_left, in_right}
 use Rattle.path_arena.specs.Arena.{Path, IsLive, no_path, path_of, list_of, HasAnEdge, IsPartOfNone}
 use Rattle.path_arena.proofs.Keys.{get_gone_other}
 use Rattle.path_arena.proofs.Paths.{live_from_edge}
@@ -16,7 +17,7 @@ use Rattle.path_book.proofs.Kept.{KeptAt, kept_at}
 use Rattle.path_book.proofs.Changes.{live_is_left, kept_forgotten}
 use Rattle.path_book.proofs.Readers.{single_or_edge, long_of_edge}
 use Rattle.cleanup_tasks.specs.Victims.{IsThrough, hops_at, IsRising, IsVictims}
-use Rattle.cleanup_tasks.proofs.Parents.{Ends, ends, hops_left, hops_right, in_left, in_right, edge_of_right}
+use Rattle.cleanup_tasks.proofs.Parents.{Ends, ends, hops_left, hops_right, edge_of_right}
 
 -- ---- lists with one entry at the end
 

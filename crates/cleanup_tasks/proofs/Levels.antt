@@ -1,12 +1,12 @@
--- The walk from parents to children, level by level.
+-- For search.rt: the walk from parents to children, level by level.
 use Rattle.std.specs.Prelude.{◌≡◌, ℕ, zero, suc, ◌+◌, ◌-◌, ◌<◌, ◌≤◌, ◌⊎◌, Bool, true, false, if◌then◌else◌, List, [], ◌∷◌, ◌++◌, length, take, map, Some, refl, Contains}
 use Rattle.std.specs.FinMap as fin
 use Rattle.std.proofs.Common.{get_or, sym, ◌∙◌, ap, subst, arith, inl, inr}
 use Rattle.std.proofs.lemmas.Bool.{false≢true}
-use Rattle.std.proofs.lemmas.List.{length-append, append_assoc, take_more}
+use Rattle.std.proofs.lemmas.List.{append-nil, append_assoc, length-append, length-map, take_more}
 use Rattle.std.proofs.lemmas.List.Elements.{Contains-append_left, Contains-append_right, Contains-append_cases}
 use Rattle.apsp_model.specs.Walk.{IsOnceEach}
-use Rattle.fixup_math.proofs.Counting.{in_cons, in_nil, head_in, tail_in, once_append}
+use Rattle.apsp_model.proofs.Members.{in_cons, in_nil, head_in, tail_in, once_append}
 use Rattle.path_arena.specs.Arena.{Path, vertex_of, left_of, right_of, IsLive}
 use Rattle.path_arena.proofs.Paths.{live_path, live_from_edge}
 use Rattle.extension_lists.specs.Known.{sides_at}
@@ -18,12 +18,12 @@ use Rattle.cleanup_tasks.proofs.Parents.{Passes, IsChild, longer_exact, ChildFac
 
 -- ---- lists
 
-append_nil : (xs : List ℕ) → xs ++ [] ≡ xs
-append_nil [] = refl
-append_nil (x ∷ xs) = ap (λ l. x ∷ l) (append_nil xs)
-
 take_push : (xs : List ℕ) (i x : ℕ) → i < length xs → x ≡ get_or xs i x → take (i + 1) xs ≡ take i xs ++ x ∷ []
 take_push xs i x inside at = take_more xs i x inside ∙ ap (λ y. take i xs ++ y ∷ []) (sym at)
+
+-- one entry more of a list that is put behind another
+pub behind_more : (old now new more : List ℕ) (i x : ℕ) → i < length more → x ≡ get_or more i x → now ≡ old ++ take i more → new ≡ now ++ x ∷ [] → new ≡ old ++ take (i + 1) more
+behind_more old now new more i x inside at before is = is ∙ ap (λ xs. xs ++ x ∷ []) before ∙ append_assoc old (take i more) (x ∷ []) ∙ ap (λ xs. old ++ xs) (sym (take_push more i x inside at))
 
 -- a list of different entries is no longer than one that has them all
 record Without (ys : List ℕ) (x : ℕ) : Type 0 where
@@ -56,9 +56,10 @@ once_is_short (x ∷ xs) ys once inside =
     let e : length ys ≡ length w.rest + 1 = w.shorter in
     omega arith
 
-length-map : {A B : Type 0} (f : A → B) (xs : List A) → length (map f xs) ≡ length xs
-length-map f [] = refl
-length-map f (x ∷ xs) = ap suc (length-map f xs)
+-- ---- what is found
+
+pub victims_live : (b : Book) → IsBook b → (v : ℕ) (ids : List ℕ) → IsVictims b v ids → (id : ℕ) → Contains ids id → IsLive b.arena id
+victims_live b was v ids victims id c = live_from_edge b.arena id was.arena ((victims.exact id).0 c).0
 
 -- ---- rising hops
 
@@ -89,11 +90,11 @@ lefts_append b (x ∷ xs) ys = ap (λ l. (sides_at b.lists x).left ++ l) (lefts_
 -- .. and those of one path more
 pub rights_more : (b : Book) (xs : List ℕ) (i x : ℕ) → i < length xs → x ≡ get_or xs i x → rights_of b (take i xs) ++ (sides_at b.lists x).right ≡ rights_of b (take (i + 1) xs)
 rights_more b xs i x inside at =
-    sym (ap (rights_of b) (take_push xs i x inside at) ∙ rights_append b (take i xs) (x ∷ []) ∙ ap (λ l. rights_of b (take i xs) ++ l) (append_nil (sides_at b.lists x).right))
+    sym (ap (rights_of b) (take_push xs i x inside at) ∙ rights_append b (take i xs) (x ∷ []) ∙ ap (λ l. rights_of b (take i xs) ++ l) (append-nil (sides_at b.lists x).right))
 
 pub lefts_more : (b : Book) (xs : List ℕ) (i x : ℕ) → i < length xs → x ≡ get_or xs i x → lefts_of b (take i xs) ++ (sides_at b.lists x).left ≡ lefts_of b (take (i + 1) xs)
 lefts_more b xs i x inside at =
-    sym (ap (lefts_of b) (take_push xs i x inside at) ∙ lefts_append b (take i xs) (x ∷ []) ∙ ap (λ l. lefts_of b (take i xs) ++ l) (append_nil (sides_at b.lists x).left))
+    sym (ap (lefts_of b) (take_push xs i x inside at) ∙ lefts_append b (take i xs) (x ∷ []) ∙ ap (λ l. lefts_of b (take i xs) ++ l) (append-nil (sides_at b.lists x).left))
 
 -- what holds of the first entries and of the next
 pub each_more : (P : ℕ → Type 0) (xs : List ℕ) (i x : ℕ) → i < length xs → x ≡ get_or xs i x → ((y : ℕ) → Contains (take i xs) y → P y) → P x → (y : ℕ) → Contains (take (i + 1) xs) y → P y
@@ -393,7 +394,7 @@ module _ (b : Book) (was : IsBook b) (v : ℕ) (inside : v < b.arena.vertices) w
         let p = live_path b.arena q (live_from_edge b.arena q was.arena (w.walked.sound q c).0) in
         to_map (λ (e : ℕ × Path). e.0) (fin.entries b.arena.paths) (q, p.0) ((in_entries b.arena.paths q p.0).1 p.1)
         )) in
-        omega (arith, short, ap length w.are, length-map (λ (e : ℕ × Path). e.0) (fin.entries b.arena.paths))
+        omega (arith, short, ap length w.are, length-map (fin.entries b.arena.paths) (λ (e : ℕ × Path). e.0))
 
     -- .. so the walk ends
     pub walk_falls : (behind in_front more : List ℕ) → more ≡ ids ++ (behind ++ in_front) → 1 ≤ length starting + length passing → length (fin.entries b.arena.paths) + (length behind + length in_front) - length more < length (fin.entries b.arena.paths) + (length starting + length passing) - length ids
@@ -411,7 +412,7 @@ module _ (b : Book) (was : IsBook b) (v : ℕ) (inside : v < b.arena.vertices) w
     }
       where
         done_all : w.done ++ (starting ++ passing) ≡ w.done
-        done_all = ap (λ xs. w.done ++ xs) ((λ i. none_starts i ++ none_passes i)) ∙ append_nil w.done
+        done_all = ap (λ xs. w.done ++ xs) ((λ i. none_starts i ++ none_passes i)) ∙ append-nil w.done
 
         found : (most q : ℕ) → hops_at b q ≤ most → IsThrough b v q → Contains (w.done ++ (starting ++ passing)) q
         found zero q few h = absurd (let some : 1 ≤ hops_at b q = some_hops b was v q h in omega (arith, few, some))

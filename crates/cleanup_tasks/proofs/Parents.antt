@@ -1,4 +1,4 @@
--- Each path through v with an edge has one parent, and the walk comes from there.
+-- For both walks: each path through v with an edge has one parent, and a walk comes from there.
 use Rattle.std.specs.Prelude.{◌≡◌, ℕ, ◌+◌, ◌<◌, ◌≤◌, ◌⊎◌, ◌↔◌, Bool, true, false, if◌then◌else◌, List, [], ◌∷◌, length, Option, Some, None, is_some, unwrap_or, refl, Contains}
 use Rattle.std.proofs.Common.{sym, ◌∙◌, ap, subst, arith, inl, inr}
 use Rattle.std.proofs.lemmas.Bool.{cases_Bool, eq-eqb, eqb-true, false≢true}
@@ -6,8 +6,8 @@ use Rattle.std.proofs.lemmas.List.{length-append}
 use Rattle.std.proofs.lemmas.List.Elements.{Contains-append_left, Contains-append_right, Contains-append_cases}
 use Rattle.apsp_model.specs.Walk.{IsSimple, first}
 use Rattle.apsp_model.specs.Part.{left_part, right_part}
-use Rattle.apsp_model.proofs.Lists.{left_and_last, length_right, contains_cons, contains_nil, ends_differ}
-use Rattle.fixup_math.proofs.Counting.{in_nil, head_in, tail_in}
+use Rattle.apsp_model.proofs.Members.{in_cons, in_nil, head_in}
+use Rattle.apsp_model.proofs.Lists.{left_and_last, length_right, ends_differ, first_in, first_of_left, in_right, to_right, first_alone}
 use Rattle.path_arena.specs.Arena.{Path, no_path, path_at, vertex_of, IsLive, list_of, left_of, right_of, HasAnEdge, single}
 use Rattle.path_arena.proofs.Paths.{Parted, parted, live_path, live_from, live_from_edge, path_of_at}
 use Rattle.extension_lists.specs.Known.{sides_at}
@@ -25,36 +25,6 @@ begins_true (x ∷ p) v e = ap Some (eqb-true x v e)
 begins_from : (p : List ℕ) (v : ℕ) → first p ≡ Some v → begins_with p v ≡ true
 begins_from [] v e = cc
 begins_from (x ∷ p) v e = eq-eqb x v (let two : Some x ≡ Some v = e in cc)
-
-first_stands : (p : List ℕ) (v : ℕ) → first p ≡ Some v → Contains p v
-first_stands [] v e = cc
-first_stands (x ∷ p) v e = (0, omega arith, (let two : Some x ≡ Some v = e in let same : x ≡ v = cc in same))
-
--- the list without its last vertex begins alike, where it is not empty
-first_of_left : (p : List ℕ) → 1 < length p → first (left_part p) ≡ first p
-first_of_left [] long = absurd (omega arith)
-first_of_left (x ∷ []) long = absurd (omega arith)
-first_of_left (x ∷ y ∷ p) long = refl
-
--- what stands in a part stands in the list
-pub in_left : (p : List ℕ) (v : ℕ) → 0 < length p → Contains (left_part p) v → Contains p v
-in_left p v some c =
-    let w = left_and_last p some in
-    subst (λ q. Contains q v) (sym w.1) (Contains-append_left (left_part p) (w.0 ∷ []) v c)
-
-pub in_right : (p : List ℕ) (v : ℕ) → Contains (right_part p) v → Contains p v
-in_right [] v c = c
-in_right (x ∷ p) v c = tail_in v x p c
-
--- a vertex that is not the first stands in the list without its first
-to_right : (p : List ℕ) (v : ℕ) → (first p ≡ Some v → ⊥) → Contains p v → Contains (right_part p) v
-to_right [] v apart c = c
-to_right (x ∷ p) v apart c = elim (contains_cons v x p c) [ inl same ↦ absurd (apart (ap Some same)) | inr more ↦ more ]
-
--- the first of a simple list does not stand behind it
-first_alone : (p : List ℕ) (v : ℕ) → IsSimple p → Contains (right_part p) v → first p ≡ Some v → ⊥
-first_alone [] v simple c e = cc
-first_alone (x ∷ p) v simple c e = simple.0 (let two : Some x ≡ Some v = e in let same : x ≡ v = cc in subst (Contains p) (sym same) c)
 
 -- a live path that passes v
 abbrev pub Passes : Book → ℕ → ℕ → Type 0
@@ -185,7 +155,7 @@ module _ (b : Book) (was : IsBook b) where
         let same : e.left ≡ p = (let two : Some e.left ≡ Some p = sym e.left_is ∙ behind.1 in cc) in
         let long : 1 < length (list_of b.arena q) = e.long in
         record {
-          through = (edge, first_stands (list_of b.arena q) v (begins_true (list_of b.arena q) v behind.0));
+          through = (edge, first_in (list_of b.arena q) v (begins_true (list_of b.arena q) v behind.0));
           hops = hops_left q e ∙ ap (λ j. hops_at b j + 1) same;
         }
     | inr in_front ↦
@@ -210,7 +180,7 @@ module _ (b : Book) (was : IsBook b) where
     | inl at_v ↦ record {
       parent = e.left;
       is = inl (at_v, e.left_is);
-      passes = (e.left_live, subst (λ xs. Contains xs v) (sym e.left_list) (first_stands (left_part (list_of b.arena q)) v (first_of_left (list_of b.arena q) e.long ∙ begins_true (list_of b.arena q) v at_v)));
+      passes = (e.left_live, subst (λ xs. Contains xs v) (sym e.left_list) (first_in (left_part (list_of b.arena q)) v (first_of_left (list_of b.arena q) e.long ∙ begins_true (list_of b.arena q) v at_v)));
     }
     | inr away ↦ record {
       parent = e.right;
@@ -234,7 +204,7 @@ module _ (b : Book) (was : IsBook b) where
   single_or_through v id passes = elim (single_or_edge b.arena id was.arena passes.0) [
     | inl one ↦
         let alone : Contains (one.0 ∷ []) v = subst (λ xs. Contains xs v) one.3 passes.1 in
-        inl (one.2 ∙ ap (vertex_of b.arena) (elim (contains_cons v one.0 [] alone) [ inl same ↦ same | inr none ↦ absurd (contains_nil v none) ]))
+        inl (one.2 ∙ ap (vertex_of b.arena) (elim (in_cons v one.0 [] alone) [ inl same ↦ same | inr none ↦ absurd (in_nil v none) ]))
     | inr edge ↦ inr (edge, passes.1)
   ]
 

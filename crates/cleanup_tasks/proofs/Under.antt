@@ -1,14 +1,14 @@
--- The paths that lie under an edge at v, and the walks from the edges.
+-- For tasks.rt: the paths that lie under an edge at v, and the walks from the edges.
 use Rattle.std.specs.Prelude.{◌≡◌, ℕ, zero, suc, ◌+◌, ◌-◌, ◌<◌, ◌≤◌, ◌↔◌, ⊤, Bool, true, false, ◌==◌, Some, if◌then◌else◌, List, [], ◌∷◌, ◌++◌, length, take, unwrap_or, slice_index, slice_index_or, Result, Ok, Err, IfOk, refl, Contains}
 use Rattle.std.specs.declared.alloc.Global.{Global}
 use Rattle.std.specs.declared.vec.Vec.{Vec}
 use Rattle.std.proofs.Common.{get_or, sym, ◌∙◌, ap, subst, arith, inl, inr}
 use Rattle.std.proofs.lemmas.Bool.{cases_lt, cases_Bool}
-use Rattle.std.proofs.lemmas.List.{length-append, append_assoc, take_more}
+use Rattle.std.proofs.lemmas.List.{append-nil, append_assoc, length-append, take_more}
 use Rattle.std.proofs.lemmas.List.Elements.{Contains-append_left, Contains-append_right, Contains-append_cases}
 use Rattle.apsp_model.specs.declared.TheConstants.{MOST_VERTICES}
 use Rattle.apsp_model.specs.Walk.{IsOnceEach, first}
-use Rattle.fixup_math.proofs.Counting.{in_cons, in_nil, head_in, tail_in, once_append}
+use Rattle.apsp_model.proofs.Members.{in_cons, in_nil, head_in, tail_in, once_append}
 use Rattle.path_arena.specs.Arena.{vertex_of, left_of, right_of, list_of, IsLive}
 use Rattle.path_arena.proofs.Paths.{live_from_edge}
 use Rattle.path_arena.proofs.Puts.{length_most}
@@ -308,10 +308,6 @@ walks_find_all b v es edges ws same each ids are = subst (IsVictims b v) (sym ar
 
 -- ---- the loop over levels
 
-pub append_nil : {A : Type 0} (xs : List A) → xs ++ [] ≡ xs
-append_nil [] = refl
-append_nil (x ∷ xs) = ap (λ l. x ∷ l) (append_nil xs)
-
 walks_push : {A : Type 0} (xs : List A) (i : ℕ) (x : A) → i < length xs → x ≡ get_or xs i x → take (i + 1) xs ≡ take i xs ++ x ∷ []
 walks_push xs i x inside at = take_more xs i x inside ∙ ap (λ y. take i xs ++ y ∷ []) (sym at)
 
@@ -321,7 +317,7 @@ across_append j (x ∷ xs) ys = ap (λ l. level_at x.items j ++ l) (across_appen
 
 pub across_more : (j : ℕ) (ws : List (Vec Level Global)) (i : ℕ) (w : Vec Level Global) → i < length ws → w ≡ get_or ws i w → across j (take i ws) ++ level_at w.items j ≡ across j (take (i + 1) ws)
 across_more j ws i w inside at =
-    sym (ap (across j) (walks_push ws i w inside at) ∙ across_append j (take i ws) (w ∷ []) ∙ ap (λ l. across j (take i ws) ++ l) (append_nil (level_at w.items j)))
+    sym (ap (across j) (walks_push ws i w inside at) ∙ across_append j (take i ws) (w ∷ []) ∙ ap (λ l. across j (take i ws) ++ l) (append-nil (level_at w.items j)))
 
 pub level_is : (ls : List Level) (j : ℕ) (d : Level) → j < length ls → level_at ls j ≡ paths_in (get_or ls j d)
 level_is [] j d inside = absurd (omega (arith, inside))

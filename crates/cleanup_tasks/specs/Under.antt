@@ -65,7 +65,8 @@ pub record EdgesAt : Type 0 where
 
 abbrev pub edges_code : Coded EdgesAt
 edges_code =
-    code_by (Book × (ℕ × List ℕ)) (coded× book_code (coded× coded_ℕ (coded_list coded_ℕ))) (λ e. (e.book, (e.vertex, e.edges)))
+    code_by (Book × (ℕ × List ℕ)) (coded× book_code (coded× coded_ℕ (coded_list coded_ℕ)))
+    (λ e. (e.book, (e.vertex, e.edges)))
     (λ t. record { book = t.0; vertex = t.1.0; edges = t.1.1 }) (λ _. refl)
 
 -- the levels of the walk from an edge

@@ -13,7 +13,8 @@ begins_with (x ∷ p) v = x == v
 abbrev pub starts_at : Book → ℕ → ℕ → Bool
 starts_at b v id = begins_with (list_of b.arena id) v
 
--- the paths that are one edge longer and have the path of the id as their parent: all that go on in front, and, where it starts at v, all that go on behind
+-- the paths that are one edge longer and have the path of the id as their parent: all that go on in front, and, where
+-- it starts at v, all that go on behind
 abbrev pub longer_of : Book → ℕ → ℕ → List ℕ
 longer_of b v id = (sides_at b.lists id).left ++ (if starts_at b v id then (sides_at b.lists id).right else [])
 

@@ -17,7 +17,8 @@ use path_book::Book;
 pub fn forget_all(book: &mut Book, list: &Victims)
     requires { IsVictims book.old list.now.vertex list.now.ids }
     ensures cleaned { IsCleaned list.now.vertex (kept_paths book.old) (kept_paths book.new) }
-    ensures ready { (before graph : Graph) → AgreeAway list.now.vertex before graph → AreLocal before (kept_paths book.old) → IsReady graph list.now.vertex (kept_paths book.new) }
+    ensures ready { (before graph : Graph) → AgreeAway list.now.vertex before graph
+        → AreLocal before (kept_paths book.old) → IsReady graph list.now.vertex (kept_paths book.new) }
     ensures vertices { book.new.arena.vertices ≡ book.old.arena.vertices }
     ensures lawful { IsBook book.new }
 {

@@ -1,6 +1,7 @@
 //! The search for the kept paths through a vertex.
 
 ghost use Rattle.std.specs.Prelude.{◌≡◌, ℕ, ◌<◌, ◌≤◌, ◌+◌, ◌++◌, [], length, false, IfOk, OnOk, Contains, IsTrue};
+ghost use Rattle.apsp_model.specs.Limits.{IsWorkerCount};
 ghost use Rattle.path_arena.specs.Arena.{IsLive};
 ghost use Rattle.apsp_model.specs.Walk.{IsOnceEach};
 ghost use Rattle.extension_lists.specs.Known.{sides_at};
@@ -9,7 +10,7 @@ ghost use Rattle.cleanup_tasks.specs.Victims.{IsVictims};
 ghost use Rattle.cleanup_tasks.specs.Walk.{lefts_of, rights_of, IsLonger};
 
 use crate::listed::Victims;
-use crate::tasks::{Crew, MANY_PATHS, walk_by};
+use crate::tasks::{MANY_PATHS, Searchers, walk_by};
 use apsp_io::{Gate, TASK};
 use apsp_model::Memory;
 use path_arena::PathId;
@@ -35,19 +36,18 @@ pub fn victims<R: Threads + Sync, G: Gate>(
     gate: &G,
 ) -> Result<Victims, Memory>
     requires vertex { v < book.now.arena.vertices }
-    requires some_workers { 1 ≤ workers }
-    requires most_workers { workers ≤ 64 }
+    requires workers { IsWorkerCount workers }
     ensures vertex { IfOk result (λ list. list.vertex ≡ v) }
     ensures all { IfOk result (λ list. IsVictims book.now v list.ids) }
 {
-    let crew = Crew {
+    let searchers = Searchers {
         rt,
         alloc,
         workers,
         gate,
         many: MANY_PATHS,
     };
-    let ids = walk_by(&crew, book, v)?;
+    let ids = walk_by(&searchers, book, v)?;
     Ok(Victims::new(v, ids))
 }
 
@@ -88,6 +88,7 @@ pub(crate) fn walk<G: Gate>(
 ) -> Result<Vec<PathId>, Memory>
     requires vertex { v < book.now.arena.vertices }
     ensures all { IfOk result (λ ids. IsVictims book.now v ids.items) }
+    ensures live { IfOk result (λ ids. (id : ℕ) → Contains ids.items id → IsLive book.now.arena id) }
 {
     let (mut level, mut next) = (Level::new(alloc), Level::new(alloc));
     longer(book, &[book.arena().vertex(v)], &[], &mut level)?;
@@ -127,7 +128,8 @@ pub(crate) fn longer(
 ) -> Result<(), Memory>
     requires starting { (id : ℕ) → Contains starting.now id → IsLive book.now.arena id }
     requires passing { (id : ℕ) → Contains passing.now id → IsLive book.now.arena id }
-    ensures longer { OnOk result (IsLonger book.now starting.now passing.now next.new.starting.items next.new.passing.items) }
+    ensures longer { OnOk result
+        (IsLonger book.now starting.now passing.now next.new.starting.items next.new.passing.items) }
     ensures lawful { IsBook book.now }
 {
     // A reader tells what holds of every book.
@@ -156,11 +158,11 @@ fn push_right(book: &Book, path: PathId, ids: &mut Vec<PathId>) -> Result<(), Me
     ensures items { OnOk result (ids.new.items ≡ ids.old.items ++ (sides_at book.now.lists path).right) }
     ensures once { IsOnceEach (sides_at book.now.lists path).right }
 {
-    ids.extend_from_slice(book.lists().right(path))
-        .map_err(|_| Memory)
+    push_all(ids, book.lists().right(path))
 }
 
 /// Puts the paths that go on in front of those of a list behind the ids.
+#[inline(always)]
 fn push_lefts(book: &Book, list: &[PathId], ids: &mut Vec<PathId>) -> Result<(), Memory>
     requires live { (id : ℕ) → Contains list.now id → IsLive book.now.arena id }
     ensures items { OnOk result (ids.new.items ≡ ids.old.items ++ lefts_of book.now list.now) }
@@ -177,6 +179,18 @@ fn push_left(book: &Book, path: PathId, ids: &mut Vec<PathId>) -> Result<(), Mem
     ensures items { OnOk result (ids.new.items ≡ ids.old.items ++ (sides_at book.now.lists path).left) }
     ensures once { IsOnceEach (sides_at book.now.lists path).left }
 {
-    ids.extend_from_slice(book.lists().left(path))
-        .map_err(|_| Memory)
+    push_all(ids, book.lists().left(path))
+}
+
+/// Puts ids behind others. Most lists are of one or two ids, or none, which a call to copy them would
+/// cost more than the copy.
+#[inline(always)]
+fn push_all(ids: &mut Vec<PathId>, more: &[PathId]) -> Result<(), Memory>
+    ensures { OnOk result (ids.new.items ≡ ids.old.items ++ more.now) }
+{
+    ids.reserve(more.len()).map_err(|_| Memory)?;
+    'more: for &id in more {
+        ids.push_reserved(id);
+    }
+    Ok(())
 }

@@ -1,7 +1,9 @@
 //! The walk by several workers, each from edges of its own.
 
-ghost use Rattle.std.specs.Prelude.{◌≡◌, ◌<◌, ◌≤◌, ◌++◌, [], ◌∷◌, length, true, false, IfOk, OnOk};
+ghost use Rattle.std.specs.Prelude.{◌≡◌, ℕ, ◌<◌, ◌≤◌, ◌++◌, [], ◌∷◌, length, true, false, IfOk, OnOk, Contains};
+ghost use Rattle.apsp_model.specs.Limits.{IsWorkerCount};
 ghost use Rattle.apsp_model.specs.declared.TheConstants.{MOST_VERTICES};
+ghost use Rattle.path_arena.specs.Arena.{IsLive};
 ghost use Rattle.path_book.specs.Book.{IsBook};
 ghost use Rattle.cleanup_tasks.specs.Victims.{IsVictims, IsThrough, hops_at};
 ghost use Rattle.cleanup_tasks.specs.Under.{AreEdges, AreLevels, paths_in, level_at, across, upto};
@@ -17,20 +19,21 @@ use std::thread::Threads;
 use task_pool::{Job, run_tasks};
 
 /// From so many kept paths on, the paths through a vertex are looked for by several workers. Starting
-/// one costs about 20 µs of processor time, so a short walk is the caller's.
-pub(crate) const MANY_PATHS: u64 = 65_536;
+/// one costs about 20 µs of processor time, in which a walk comes to thousands of paths. A complete
+/// graph of 128 vertices with equal weights keeps half as many, and is searched faster by the caller
+/// alone.
+pub(crate) const MANY_PATHS: u64 = 4_194_304;
 
 /// Who looks for the paths through a vertex: so many workers, which pass the gate, where the book
-/// keeps at least `many` paths.
+/// keeps at least `many` paths, and the caller alone where it keeps fewer.
 #[derive(Drop)]
-pub(crate) struct Crew<'a, R, G> {
+pub(crate) struct Searchers<'a, R, G> {
     pub(crate) rt: &'a R,
     pub(crate) alloc: Global,
     pub(crate) workers: u32,
     pub(crate) gate: &'a G,
     pub(crate) many: u64,
-    ghost some: { 1 ≤ workers },
-    ghost most: { workers ≤ 64 },
+    ghost count: { IsWorkerCount workers },
 }
 
 /// The edges at a vertex. The task of an edge walks from it, and gives the levels of the walk.
@@ -71,25 +74,26 @@ impl<'a> Job for Edges<'a> {
 
 /// The kept paths through v that have an edge, in rising hops.
 pub(crate) fn walk_by<R: Threads + Sync, G: Gate>(
-    crew: &Crew<'_, R, G>,
+    searchers: &Searchers<'_, R, G>,
     book: &Book,
     v: u32,
 ) -> Result<Vec<PathId>, Memory>
     requires vertex { v < book.now.arena.vertices }
     ensures all { IfOk result (λ ids. IsVictims book.now v ids.items) }
+    ensures live { IfOk result (λ ids. (id : ℕ) → Contains ids.items id → IsLive book.now.arena id) }
 {
-    if crew.workers > 1 && book.count_paths() >= crew.many {
-        let edges = edges_at(crew.alloc, book, v)?;
+    if searchers.workers > 1 && book.count_paths() >= searchers.many {
+        let edges = edges_at(searchers.alloc, book, v)?;
         if let Ok(tasks) = u32::try_from(edges.len()) {
-            return walk_by_tasks(crew, book, v, edges.as_slice(), tasks);
+            return walk_by_tasks(searchers, book, v, edges.as_slice(), tasks);
         }
     }
-    walk(crew.alloc, book, v, crew.gate)
+    walk(searchers.alloc, book, v, searchers.gate)
 }
 
 /// Walks from each edge at v by a task of its own. Each path through v lies under one of them.
 fn walk_by_tasks<R: Threads + Sync, G: Gate>(
-    crew: &Crew<'_, R, G>,
+    searchers: &Searchers<'_, R, G>,
     book: &Book,
     v: u32,
     edges: &[PathId],
@@ -98,15 +102,23 @@ fn walk_by_tasks<R: Threads + Sync, G: Gate>(
     requires edges { AreEdges book.now v edges.now }
     requires all { tasks ≡ length edges.now }
     ensures all { IfOk result (λ ids. IsVictims book.now v ids.items) }
+    ensures live { IfOk result (λ ids. (id : ℕ) → Contains ids.items id → IsLive book.now.arena id) }
 {
     let from = Edges {
-        alloc: crew.alloc,
+        alloc: searchers.alloc,
         book,
         vertex: v,
         ids: edges,
     };
-    let walked = run_tasks(crew.rt, crew.alloc, crew.workers, tasks, &from, crew.gate)?;
-    by_hops(crew.alloc, walked.answers())
+    let walked = run_tasks(
+        searchers.rt,
+        searchers.alloc,
+        searchers.workers,
+        tasks,
+        &from,
+        searchers.gate,
+    )?;
+    by_hops(searchers.alloc, walked.answers())
 }
 
 /// The edges at v.

@@ -1,10 +1,11 @@
 //! Tests of the cleanup by calls.
 
 ghost use Rattle.std.specs.Prelude.{◌≡◌, ◌≢◌, ◌<◌, ◌≤◌, IsTrue, IfOk, All, length, [], ◌∷◌};
+ghost use Rattle.apsp_model.specs.Limits.{IsWorkerCount};
 ghost use Rattle.cleanup_tasks.specs.Victims.{IsVictims};
 ghost use Rattle.path_book.specs.Book.{IsBook, IsNewList};
 
-use crate::tasks::{Crew, walk_by};
+use crate::tasks::{Searchers, walk_by};
 use crate::{Victims, forget_all, victims};
 use apsp_io::OpenGate;
 use path_arena::PathId;
@@ -139,18 +140,17 @@ fn by_workers<R: Threads + Sync>(
     workers: u32,
 ) -> Result<Vec<PathId>, Fail>
     requires vertices { book.now.arena.vertices ≡ 5 }
-    requires some { 1 ≤ workers }
-    requires most { workers ≤ 64 }
+    requires workers { IsWorkerCount workers }
     ensures all { IfOk result (λ ids. IsVictims book.now 0 ids.items) }
 {
-    let crew = Crew {
+    let searchers = Searchers {
         rt,
         alloc,
         workers,
         gate: &OpenGate,
         many: 1,
     };
-    let ids = walk_by(&crew, book, 0)?;
+    let ids = walk_by(&searchers, book, 0)?;
     Ok(ids)
 }
 

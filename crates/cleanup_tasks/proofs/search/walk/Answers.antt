@@ -1,9 +1,10 @@
 use Rattle.std.proofs.Common.{◌≡◌, ℕ, List, ◌++◌, Contains, sym, ◌∙◌, ap, subst}
 use Rattle.std.proofs.lemmas.List.Elements.{Contains-append_right}
 use Rattle.path_arena.specs.Arena.{vertex_of}
+use Rattle.cleanup_tasks.specs.Victims.{IsVictims}
 use Rattle.cleanup_tasks.specs.Walk.{IsLonger}
 use Rattle.cleanup_tasks.specs.declared.search.Level.{Level}
-use Rattle.cleanup_tasks.proofs.Levels.{walk_starts, walk_goes_on, walk_falls, walk_ends, level_live}
+use Rattle.cleanup_tasks.proofs.Levels.{walk_starts, walk_goes_on, walk_falls, walk_ends, level_live, victims_live}
 use Rattle.cleanup_tasks.proofs.search.walk.Goals as goal
 
 pub levels-init : goal.levels-init
@@ -35,4 +36,5 @@ levels-preserved g c =
 pub returns : goal.returns
 returns g c =
     let none = c.is_empty.ensures.none c.levels-test.false in
-    record { all = walk_ends c.args.book.now c.longer.ensures.lawful c.args.v c.requires.vertex c.levels.level.starting.items c.levels.level.passing.items c.levels.ids.items c.levels.invariant none.0 none.1 }
+    let victims : IsVictims c.args.book.now c.args.v c.levels.ids.items = walk_ends c.args.book.now c.longer.ensures.lawful c.args.v c.requires.vertex c.levels.level.starting.items c.levels.level.passing.items c.levels.ids.items c.levels.invariant none.0 none.1 in
+    record { all = victims; live = victims_live c.args.book.now c.longer.ensures.lawful c.args.v c.levels.ids.items victims }
