@@ -1,4 +1,4 @@
--- Answers that are put into the places of their tasks.
+-- Answers that are put into the places of their tasks: for `placed`, `unwrapped` and `together`.
 use Rattle.std.proofs.Common.{◌≡◌, ℕ, zero, suc, ◌<◌, ◌≤◌, ◌⊎◌, inl, inr, ⊎_elim, List, [], ◌∷◌, ◌++◌, length, get_or, set, All, Option, Some, None, IsSome, refl, ap, sym, ◌∙◌, subst, map, append_assoc, replicate, arith, length-set, get_or-set_same}
 use mathlib.Core.Logic.{dite}
 use native.Mathlib.Decide.{ℕ_discrete}

@@ -1,4 +1,4 @@
--- Numbers of tasks in lists.
+-- How often a task stands in a list: for `answer`, `gathered`, `bring_back` and `states`.
 use Rattle.std.proofs.Common.{◌≡◌, ◌≢◌, ℕ, zero, suc, ◌+◌, ◌<◌, List, [], ◌∷◌, ◌++◌, refl, ap, arith}
 use Rattle.task_pool.specs.declared.work.Done.{Done}
 use Rattle.task_pool.specs.Lists.{times, is_at, once_below, from_on}

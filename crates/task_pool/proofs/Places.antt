@@ -1,4 +1,4 @@
--- Steps at one place of a list of states or of passes.
+-- Steps at one place of a list of states or of passes: for the calls of `deal`, and `tried`, `spread` and `bring_back`.
 use Rattle.std.proofs.Common.{◌≡◌, ◌≢◌, ℕ, zero, suc, ◌+◌, ◌-◌, ◌<◌, ◌≤◌, List, [], ◌∷◌, ◌++◌, length, get_or, set, refl, ap, sym, ◌∙◌, subst, arith, length-append, length-set, get_or-set_same, Option, Some, None, IfSome, IfNone, Vec, Global}
 use mathlib.Core.Logic.{dite}
 use native.Mathlib.Decide.{dec_lt, ℕ_discrete}

@@ -1,4 +1,4 @@
--- Totals over lists of which one place changes.
+-- Totals over lists of which one place changes, for the other files and the proofs that count tasks.
 use Rattle.std.proofs.Common.{◌≡◌, ℕ, zero, suc, ◌+◌, ◌≤◌, List, [], ◌∷◌, ◌++◌, set, length, sym, refl, ap, arith}
 use mathlib.Core.Option.{some, some-injective, some-ne-none}
 use lib.ListN.{get_elem?}

@@ -1,4 +1,4 @@
--- The protocol of a deque of task numbers, and what each step tells.
+-- The protocol of a deque of task numbers, and what each step tells. No public clause cites this module.
 use Rattle.std.specs.Prelude.{◌≡◌, ℕ, ◌+◌, ◌-◌, ◌≤◌, List, [], ◌++◌, length}
 use mathlib.Core.Option.{some}
 use lib.ListN.{get_elem?}
@@ -12,10 +12,13 @@ account parts pushed took = record { parts = parts; pushed = pushed; took = took
 abbrev pub ALL_PARTS : ℕ
 ALL_PARTS = 1024
 
--- the numbers that the deque holds and those that its passes have taken are together the numbers that were pushed, each as often
+-- the numbers that the deque holds and those that its passes have taken are together the numbers that were pushed, each
+-- as often
 pub record Shares (items : List ℕ) (views : List Account) : Type 0 where
-  pub taken : (x : ℕ) → total (λ (v : Account). times x v.took) views + times x items ≡ total (λ (v : Account). times x v.pushed) views
-  pub lengths : total (λ (v : Account). length v.took) views + length items ≡ total (λ (v : Account). length v.pushed) views
+  pub taken : (x : ℕ) → total (λ (v : Account). times x v.took) views + times x items
+      ≡ total (λ (v : Account). times x v.pushed) views
+  pub lengths : total (λ (v : Account). length v.took) views + length items
+      ≡ total (λ (v : Account). length v.pushed) views
   pub parts : total (λ (v : Account). v.parts) views ≡ ALL_PARTS
   pub idle : (i : ℕ) (v : Account) → get_elem? views i ≡ some v → v.parts ≡ 0 → (v.pushed ≡ []) × (v.took ≡ [])
 

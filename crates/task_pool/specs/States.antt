@@ -1,4 +1,5 @@
--- The states of the workers: their deques, the passes that they have, and what they did.
+-- The states of the workers: their deques, the passes that they have, and what they did. No public clause cites this
+-- module.
 use Rattle.std.specs.Prelude.{◌≡◌, ℕ, ◌+◌, ◌<◌, ◌≤◌, List, [], ◌∷◌, length, slice_index_or, All, Option, Some, None}
 use Rattle.std.specs.declared.alloc.Global.{Global}
 use Rattle.crossbeam_deque.specs.Handles.{Pass, view, IsPassOf, worker_deque, worker_flavor, worker_view, stealer_deque}
@@ -23,7 +24,8 @@ Fits t p = IsPassOf (stealer_deque t) p × ((view p).parts ≡ 1) × ((view p).p
 -- each pass is of the deque at its place
 pub record AreFitting (thieves : List Thief) (passes : List Passed) : Type 0 where
   pub few : length passes ≤ length thieves
-  pub each : (j : ℕ) (t : Thief) (p : Passed) → j < length passes → Fits (slice_index_or thieves j t) (slice_index_or passes j p)
+  pub each : (j : ℕ) (t : Thief) (p : Passed) → j < length passes
+      → Fits (slice_index_or thieves j t) (slice_index_or passes j p)
 
 -- a pass of each deque
 abbrev pub IsRow : List Thief → List Passed → Type 0
@@ -66,7 +68,8 @@ module _ {T : Type 0} where
 
   pub record AreStates (parts : ℕ) (thieves : List Thief) (states : List (WorkerState T)) : Type 0 where
     pub len : length states ≡ length thieves
-    pub each : (j : ℕ) (t : Thief) (d : WorkerState T) → j < length states → IsState parts (slice_index_or thieves j t) (slice_index_or states j d)
+    pub each : (j : ℕ) (t : Thief) (d : WorkerState T) → j < length states
+        → IsState parts (slice_index_or thieves j t) (slice_index_or states j d)
 
   -- the owner of a deque of which nobody else has a pass
   abbrev pub OwnsAll : WorkerState T → Type 0

@@ -1,6 +1,8 @@
 //! The deques and their passes: made, lent and taken back.
 
 ghost use Rattle.std.specs.Prelude.{◌≡◌, ℕ, ◌+◌, ◌-◌, ◌*◌, ◌^◌, ◌<◌, ◌≤◌, [], length, map, IfOk, OnOk, All, vec_len, slice_index_or};
+ghost use Rattle.apsp_model.specs.Limits.{IsWorkerCount};
+ghost use Rattle.apsp_model.specs.declared.TheConstants.{MOST_WORKERS};
 ghost use Rattle.crossbeam_deque.specs.Handles.{view, worker_view, worker_flavor, worker_deque, stealer_deque, stealer_flavor};
 ghost use Rattle.task_pool.specs.Lists.{total, times, once_below};
 ghost use Rattle.task_pool.specs.Shares.{ALL_PARTS};
@@ -19,7 +21,7 @@ pub(crate) fn states<T: Drop>(
     workers: u32,
     tasks: u32,
 ) -> Result<Vec<WorkerState<T>>, Memory>
-    requires { (1 ≤ workers) × (workers ≤ 64) }
+    requires { IsWorkerCount workers }
     ensures len { IfOk result (λ v. vec_len v ≡ workers) }
     ensures own { IfOk result (λ v. All OwnsAll v.items) }
     ensures fresh { IfOk result (λ v. All IsFresh v.items) }
@@ -81,11 +83,12 @@ fn row<T: Drop>(
     requires states { AreStates (parts + 1) thieves.now states.old.items }
     ensures row { IfOk result (λ v. IsRow thieves.now v.items × ((x : ℕ) → took_in x v.items ≡ 0)) }
     ensures states { OnOk result (AreStates parts thieves.now states.new.items) }
-    ensures same { (j : ℕ) (d : WorkerState T) → j < vec_len states.old → IsSame (slice_index_or states.old.items j d) (slice_index_or states.new.items j d) }
-    ensures took { (j : ℕ) (d : WorkerState T) → j < vec_len states.old → (worker_view (slice_index_or states.new.items j d).owner).took ≡ (worker_view (slice_index_or states.old.items j d).owner).took }
+    ensures same { (j : ℕ) (d : WorkerState T) → j < vec_len states.old
+        → IsSame (slice_index_or states.old.items j d) (slice_index_or states.new.items j d) }
+    ensures took { (j : ℕ) (d : WorkerState T) → j < vec_len states.old
+        → (worker_view (slice_index_or states.new.items j d).owner).took
+        ≡ (worker_view (slice_index_or states.old.items j d).owner).took }
 {
-    let _ = thieves;
-    let _ = parts;
     let Ok(mut all) = Vec::with_capacity(alloc, states.len()) else {
         return Err(Memory);
     };
@@ -104,13 +107,14 @@ pub(crate) fn lend<T: Drop>(
     thieves: &[Thief],
     states: &mut Vec<WorkerState<T>>,
 ) -> Result<(), Memory>
-    requires workers { length thieves.now ≤ 64 }
+    requires workers { length thieves.now ≤ MOST_WORKERS }
     requires states { AreStates ALL_PARTS thieves.now states.old.items }
     requires fresh { All IsFresh states.old.items }
     ensures states { OnOk result (AreStates (ALL_PARTS - length thieves.now) thieves.now states.new.items) }
     ensures rows { OnOk result (All (λ d. IsRow thieves.now d.passes.items) states.new.items) }
     ensures fresh { OnOk result (All IsFresh states.new.items) }
-    ensures pushed { OnOk result ((x : ℕ) → total (pushed_at x) states.new.items ≡ total (pushed_at x) states.old.items) }
+    ensures pushed { OnOk result ((x : ℕ) → total (pushed_at x) states.new.items
+        ≡ total (pushed_at x) states.old.items) }
 {
     for who in 0..states.len() {
         let passes = row(alloc, thieves, 1023 - who as u64, states)?;
@@ -130,11 +134,11 @@ fn take_row<T: Drop>(
     requires states { AreStates parts thieves.now states.old.items }
     requires row { IsRow thieves.now passes.items }
     ensures states { AreStates (parts + 1) thieves.now states.new.items }
-    ensures same { (j : ℕ) (d : WorkerState T) → j < vec_len states.old → IsSame (slice_index_or states.old.items j d) (slice_index_or states.new.items j d) }
-    ensures took { (x : ℕ) → total (took_at x) states.new.items ≡ total (took_at x) states.old.items + took_in x passes.items }
+    ensures same { (j : ℕ) (d : WorkerState T) → j < vec_len states.old
+        → IsSame (slice_index_or states.old.items j d) (slice_index_or states.new.items j d) }
+    ensures took { (x : ℕ) → total (took_at x) states.new.items
+        ≡ total (took_at x) states.old.items + took_in x passes.items }
 {
-    let _ = thieves;
-    let _ = parts;
     while let Some(pass) = passes.pop() {
         let at = passes.len();
         take_in(&mut states[at].owner, pass);
@@ -143,11 +147,12 @@ fn take_row<T: Drop>(
 
 /// Takes all passes back.
 pub(crate) fn take_all<T: Drop>(alloc: Global, thieves: &[Thief], states: &mut Vec<WorkerState<T>>)
-    requires workers { length thieves.now ≤ 64 }
+    requires workers { length thieves.now ≤ MOST_WORKERS }
     requires states { AreStates (ALL_PARTS - length thieves.now) thieves.now states.old.items }
     requires rows { All (λ d. IsRow thieves.now d.passes.items) states.old.items }
     ensures states { AreStates ALL_PARTS thieves.now states.new.items }
-    ensures done { (j : ℕ) (d : WorkerState T) → j < vec_len states.old → (slice_index_or states.new.items j d).done ≡ (slice_index_or states.old.items j d).done }
+    ensures done { (j : ℕ) (d : WorkerState T) → j < vec_len states.old
+        → (slice_index_or states.new.items j d).done ≡ (slice_index_or states.old.items j d).done }
     ensures took { (x : ℕ) → total (took_at x) states.new.items ≡ total (took_all x) states.old.items }
     ensures pushed { (x : ℕ) → total (pushed_at x) states.new.items ≡ total (pushed_at x) states.old.items }
 {

@@ -10,7 +10,8 @@ use crossbeam_deque::{Pass, Steal, Stealer, Worker};
 use std::alloc::{AllocError, Global};
 use std::collections::LinkedList;
 
-/// What a pass knows: its parts of the right to know all, the numbers that it pushed, and those that it took. No value of it is made.
+/// What a pass knows: its parts of the right to know all, the numbers that it pushed, and those that it took. No value
+/// of it is made.
 pub(crate) struct Account {
     pub parts: u64,
     pub pushed: LinkedList<u32>,
@@ -89,18 +90,26 @@ pub(crate) fn filled(alloc: Global, from: u32, count: u32) -> Result<Owner, Allo
 pub(crate) fn next(owner: &mut Owner) -> Option<u32>
     requires { (worker_flavor owner.old ≡ 0) × (0 < (worker_view owner.old).parts) }
     ensures same { SameWorker owner.old owner.new }
-    ensures took { IfSome result (λ x. worker_view owner.new ≡ account (worker_view owner.old).parts (worker_view owner.old).pushed ((worker_view owner.old).took ++ x ∷ [])) }
-    ensures few { IfSome result (λ x. (worker_view owner.old).parts ≡ ALL_PARTS → length (worker_view owner.new).took ≤ length (worker_view owner.new).pushed) }
-    ensures empty { IfNone result ((worker_view owner.new ≡ worker_view owner.old) × ((worker_view owner.old).parts ≡ ALL_PARTS → (x : ℕ) → times x (worker_view owner.old).took ≡ times x (worker_view owner.old).pushed)) }
+    ensures took { IfSome result
+        (λ x. worker_view owner.new
+        ≡ account (worker_view owner.old).parts (worker_view owner.old).pushed
+        ((worker_view owner.old).took ++ x ∷ [])) }
+    ensures few { IfSome result (λ x. (worker_view owner.old).parts ≡ ALL_PARTS
+        → length (worker_view owner.new).took ≤ length (worker_view owner.new).pushed) }
+    ensures empty { IfNone result ((worker_view owner.new ≡ worker_view owner.old)
+        × ((worker_view owner.old).parts ≡ ALL_PARTS → (x : ℕ)
+        → times x (worker_view owner.old).took ≡ times x (worker_view owner.old).pushed)) }
 {
     owner.pop_as::<Taking>()
 }
 
 /// At most one task of another's deque.
 pub(crate) fn stolen(thief: &Thief, pass: &mut Pass<u32, Account>) -> Option<u32>
-    requires { IsPassOf (stealer_deque thief.now) pass.old × (stealer_flavor thief.now ≡ 0) × (0 < (view pass.old).parts) }
+    requires { IsPassOf (stealer_deque thief.now) pass.old × (stealer_flavor thief.now ≡ 0)
+        × (0 < (view pass.old).parts) }
     ensures same { IsPassOf (stealer_deque thief.now) pass.new × (pass.new.id ≡ pass.old.id) }
-    ensures took { IfSome result (λ x. view pass.new ≡ account (view pass.old).parts (view pass.old).pushed ((view pass.old).took ++ x ∷ [])) }
+    ensures took { IfSome result
+        (λ x. view pass.new ≡ account (view pass.old).parts (view pass.old).pushed ((view pass.old).took ++ x ∷ [])) }
     ensures none { IfNone result (view pass.new ≡ view pass.old) }
 {
     match thief.steal_as::<Taking>(pass) {
@@ -114,7 +123,8 @@ pub(crate) fn stolen(thief: &Thief, pass: &mut Pass<u32, Account>) -> Option<u32
 pub(crate) fn pass_of(owner: &mut Owner) -> Pass<u32, Account>
     requires { 1 < (worker_view owner.old).parts }
     ensures same { SameWorker owner.old owner.new × IsPassOf (worker_deque owner.old) result }
-    ensures rest { worker_view owner.new ≡ account ((worker_view owner.old).parts - 1) (worker_view owner.old).pushed (worker_view owner.old).took }
+    ensures rest { worker_view owner.new
+        ≡ account ((worker_view owner.old).parts - 1) (worker_view owner.old).pushed (worker_view owner.old).took }
     ensures new { view result ≡ account 1 [] [] }
 {
     owner.another::<Parts>()
@@ -129,10 +139,12 @@ pub(crate) fn take_in(owner: &mut Owner, pass: Pass<u32, Account>)
     owner.absorb::<Parts>(pass);
 }
 
-/// The tasks that nobody took, once all passes are back: there are none in practice. Afterwards each number that was pushed was taken as often.
+/// The tasks that nobody took, once all passes are back: there are none in practice. Afterwards each number that was
+/// pushed was taken as often.
 pub(crate) fn rest(owner: &mut Owner, alloc: Global) -> Result<Vec<u32>, AllocError>
     requires { (worker_flavor owner.old ≡ 0) × ((worker_view owner.old).parts ≡ ALL_PARTS) }
-    ensures { IfOk result (λ v. (x : ℕ) → times x (worker_view owner.old).took + times x v.items ≡ times x (worker_view owner.old).pushed) }
+    ensures { IfOk result (λ v. (x : ℕ) → times x (worker_view owner.old).took + times x v.items
+        ≡ times x (worker_view owner.old).pushed) }
 {
     let mut all = Vec::new(alloc);
     while let Some(task) = next(owner) {

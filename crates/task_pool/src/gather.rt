@@ -1,6 +1,8 @@
 //! The workers together.
 
 ghost use Rattle.std.specs.Prelude.{false, ◌≡◌, ℕ, ◌-◌, ◌<◌, ◌≤◌, length, IfOk, OnOk, All, vec_len, slice_index_or};
+ghost use Rattle.apsp_model.specs.Limits.{IsWorkerCount};
+ghost use Rattle.apsp_model.specs.declared.TheConstants.{MOST_WORKERS};
 ghost use Rattle.crossbeam_deque.specs.Handles.{view, worker_view, worker_flavor, worker_deque, stealer_deque, stealer_flavor};
 ghost use Rattle.task_pool.specs.Lists.{total, times, once_below};
 ghost use Rattle.task_pool.specs.Shares.{ALL_PARTS};
@@ -75,18 +77,19 @@ fn spread<J: Job, G: Gate, R: Threads + Sync>(
     gate: &G,
 )
     requires tasks { tasks ≤ J.count job.now }
-    requires workers { (1 ≤ length thieves.now) × (length thieves.now ≤ 64) }
+    requires workers { IsWorkerCount (length thieves.now) }
     requires fifo { All (λ t. stealer_flavor t ≡ 0) thieves.now }
     requires states { AreStates (ALL_PARTS - length thieves.now) thieves.now states.old }
     requires rows { All (λ d. IsRow thieves.now d.passes.items) states.old }
     requires worked { All (HasWorked (J.gives job.now) tasks) states.old }
-    ensures own { (j : ℕ) (d : WorkerState J.Out) → j < length states.old → SameOwner (slice_index_or states.old j d) (slice_index_or states.new j d) }
+    ensures own { (j : ℕ) (d : WorkerState J.Out) → j < length states.old
+        → SameOwner (slice_index_or states.old j d) (slice_index_or states.new j d) }
     ensures rows { All (λ d. IsRow thieves.now d.passes.items) states.new }
     ensures worked { All (λ d. d.short ≡ false → HasWorked (J.gives job.now) tasks d) states.new }
 {
     let run = |who: usize, state: &mut WorkerState<J::Out>|
         requires tasks { tasks ≤ J.count job.now }
-        requires who { (who < length thieves.now) × (length thieves.now ≤ 64) }
+        requires who { (who < length thieves.now) × (length thieves.now ≤ MOST_WORKERS) }
         requires fifo { All (λ t. stealer_flavor t ≡ 0) thieves.now }
         requires own { (worker_flavor state.old.owner ≡ 0) × (0 < (worker_view state.old.owner).parts) }
         requires row { IsRow thieves.now state.old.passes.items }
@@ -123,7 +126,7 @@ fn spread_all<J: Job, G: Gate, R: Threads + Sync>(
     gate: &G,
 )
     requires tasks { tasks ≤ J.count job.now }
-    requires workers { (1 ≤ length thieves.now) × (length thieves.now ≤ 64) }
+    requires workers { IsWorkerCount (length thieves.now) }
     requires fifo { All (λ t. stealer_flavor t ≡ 0) thieves.now }
     requires states { AreStates (ALL_PARTS - length thieves.now) thieves.now states.old.items }
     requires rows { All (λ d. IsRow thieves.now d.passes.items) states.old.items }
@@ -144,15 +147,13 @@ fn bring_back<J: Job>(
     tasks: u32,
     job: &J,
 ) -> Result<(), Memory>
-    requires workers { length thieves.now ≤ 64 }
+    requires workers { length thieves.now ≤ MOST_WORKERS }
     requires states { AreStates (ALL_PARTS - length thieves.now) thieves.now states.old.items }
     requires rows { All (λ d. IsRow thieves.now d.passes.items) states.old.items }
     requires worked { All (λ d. d.short ≡ false → HasWorked (J.gives job.now) tasks d) states.old.items }
     requires pushed { (x : ℕ) → total (pushed_at x) states.old.items ≡ once_below x tasks }
     ensures { OnOk result (AreBack (J.gives job.now) tasks states.new.items) }
 {
-    let _ = job;
-    let _ = tasks;
     if any_short(states.as_slice()) {
         return Err(Memory);
     }
@@ -202,7 +203,7 @@ fn together<J: Job, G: Gate, R: Threads + Sync>(
     job: &J,
     gate: &G,
 ) -> Result<Vec<J::Out>, Memory>
-    requires workers { (1 ≤ workers) × (workers ≤ 64) }
+    requires workers { IsWorkerCount workers }
     requires tasks { tasks ≤ J.count job.now }
     ensures len { IfOk result (λ v. vec_len v ≡ tasks) }
     ensures each { IfOk result (λ v. (k : ℕ) (d : J.Out) → k < tasks → J.gives job.now k (slice_index_or v.items k d)) }
@@ -236,7 +237,7 @@ pub fn run_tasks<J: Job, G: Gate, R: Threads + Sync>(
     job: &J,
     gate: &G,
 ) -> Result<Answered<J::Out>, Memory>
-    requires workers { (1 ≤ workers) × (workers ≤ 64) }
+    requires workers { IsWorkerCount workers }
     requires tasks { tasks ≤ J.count job.now }
     ensures len { IfOk result (λ a. length a ≡ tasks) }
     ensures each { IfOk result (λ a. (k : ℕ) (d : J.Out) → k < tasks → J.gives job.now k (slice_index_or a k d)) }

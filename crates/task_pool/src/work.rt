@@ -2,6 +2,7 @@
 
 ghost use Rattle.std.specs.Prelude.{◌≡◌, ℕ, ◌+◌, ◌-◌, ◌*◌, ◌^◌, ◌<◌, ◌≤◌, [], length, map, IfOk, vec_len};
 ghost use Rattle.std.specs.Prelude.{All, OnOk, slice_index_or};
+ghost use Rattle.apsp_model.specs.declared.TheConstants.{MOST_WORKERS};
 ghost use Rattle.crossbeam_deque.specs.Handles.{view, worker_view, worker_flavor, worker_deque, stealer_deque, stealer_flavor};
 ghost use Rattle.task_pool.specs.Lists.{times, is_at};
 ghost use Rattle.task_pool.specs.States.{AreFitting, IsRow, took_in, tasks_of, IsRight, IsState, HasWorked, SameOwner, counted};
@@ -42,7 +43,8 @@ fn answer<J: Job, G: Gate>(
     requires tasks { tasks ≤ J.count job.now }
     requires right { All (IsRight (J.gives job.now) tasks) done.old.items }
     ensures right { All (IsRight (J.gives job.now) tasks) done.new.items }
-    ensures more { OnOk result ((x : ℕ) → x < tasks → times x (tasks_of done.new.items) ≡ times x (tasks_of done.old.items) + is_at x task) }
+    ensures more { OnOk result ((x : ℕ) → x < tasks → times x (tasks_of done.new.items)
+        ≡ times x (tasks_of done.old.items) + is_at x task) }
 {
     if task >= tasks {
         return Ok(());
@@ -144,7 +146,7 @@ pub(crate) fn work<J: Job, G: Gate>(
     gate: &G,
 ) -> Result<(), Memory>
     requires tasks { tasks ≤ J.count job.now }
-    requires who { (who < length thieves.now) × (length thieves.now ≤ 64) }
+    requires who { (who < length thieves.now) × (length thieves.now ≤ MOST_WORKERS) }
     requires fifo { All (λ t. stealer_flavor t ≡ 0) thieves.now }
     requires own { (worker_flavor state.old.owner ≡ 0) × (0 < (worker_view state.old.owner).parts) }
     requires row { IsRow thieves.now state.old.passes.items }
@@ -174,7 +176,8 @@ pub(crate) fn answer_all<J: Job, G: Gate>(
     requires tasks { tasks ≤ J.count job.now }
     requires right { All (IsRight (J.gives job.now) tasks) done.old.items }
     ensures right { All (IsRight (J.gives job.now) tasks) done.new.items }
-    ensures more { OnOk result ((x : ℕ) → x < tasks → times x (tasks_of done.new.items) ≡ times x (tasks_of done.old.items) + times x left.items) }
+    ensures more { OnOk result ((x : ℕ) → x < tasks → times x (tasks_of done.new.items)
+        ≡ times x (tasks_of done.old.items) + times x left.items) }
 {
     while let Some(task) = left.pop() {
         answer(0, task, tasks, done, job, gate)?;
