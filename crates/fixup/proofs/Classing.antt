@@ -1,4 +1,4 @@
--- A class is taken.
+-- A class is taken: what `pop_class` gives is what the mathematics needs of a class. Serves `take_classes`.
 use Rattle.std.specs.Prelude.{◌≡◌, ℕ, ◌+◌, ◌*◌, ◌<◌, ◌≤◌, ◌⊎◌, ◌↔◌, false, List, [], ◌∷◌, length, Some, unwrap_or, slice_index_or, refl, Contains}
 use Rattle.std.specs.declared.cmp.Ordering.TheVariants.{Less}
 use Rattle.std.proofs.Common.{sym, ◌∙◌, ap, subst, arith, inl, inr, get_or}
@@ -19,7 +19,7 @@ use Rattle.fixup_math.proofs.Winners.{class_starts}
 use Rattle.fixup.proofs.Growth.{id_weight}
 use Rattle.fixup.proofs.Heads.{ends_inside}
 use Rattle.fixup.specs.Views.{HeldIn, Kept, Marked, WonIn}
-use Rattle.fixup.specs.Growth.{IsAt, IsTaken, ListedIn}
+use Rattle.fixup.specs.Growth.{InvariantHolds, ClassIsTaken, ListedIn}
 
 higher : (r s : Rank) → IsLower r s → s.weight ≡ r.weight → s.hops ≡ r.hops → ⊥
 higher r s lower w h = elim lower [ inl less ↦ omega (arith, less, w) | inr tie ↦ omega (arith, tie.1, h) ]
@@ -34,7 +34,7 @@ some_nonempty : (g : Graph) (p : List ℕ) → IsWalk g p → 0 < length p
 some_nonempty g [] h = absurd h
 some_nonempty g (x ∷ p) h = omega arith
 
-module _ (g : Graph) (birth : ℕ) (b0 b : Book) (c : Classes) (s : IsAt g birth b0 b c) (later : Classes) (rank : Rank) (winners : List ℕ) (popped : IsPopped c later b.arena rank winners) (fits : Fits later b.arena) where
+module _ (g : Graph) (birth : ℕ) (b0 b : Book) (c : Classes) (s : InvariantHolds g birth b0 b c) (later : Classes) (rank : Rank) (winners : List ℕ) (popped : IsPopped c later b.arena rank winners) (fits : Fits later b.arena) where
   walk_of : (id : ℕ) → IsLive b.arena id → IsWalk g (list_of b.arena id)
   walk_of id live = ((s.settling.kept (list_of b.arena id)).0 (id, live, refl)).walk
 
@@ -174,7 +174,7 @@ module _ (g : Graph) (birth : ℕ) (b0 b : Book) (c : Classes) (s : IsAt g birth
   class_hops = pop.some.3
 
   -- its winners are promoted next
-  pub class_taken : IsTaken g birth b0 class_path winners b later
+  pub class_taken : ClassIsTaken g birth b0 class_path winners b later
   unfolding class_path
   class_taken = record {
     grown = s.grown;

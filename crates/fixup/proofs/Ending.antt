@@ -1,4 +1,4 @@
--- The end of a settling, and what was formed and promoted as differences of counts.
+-- The end of a settling, and what was formed and promoted as differences of counts. Serves `settle_by`.
 use Rattle.std.specs.Prelude.{◌≡◌, ℕ, ◌+◌, ◌-◌, ◌<◌, ◌≤◌, ◌⊎◌, List, length}
 use Rattle.std.proofs.Common.{sym, ◌∙◌, ap, subst, arith, inl, inr}
 use Rattle.std.proofs.lemmas.Bool.{cases_lt}
@@ -12,7 +12,7 @@ use Rattle.path_arena.specs.Arena.{IsLive, list_of}
 use Rattle.path_arena.proofs.Paths.{live_path, live_from, path_of_at}
 use Rattle.path_book.specs.Book.{Book, IsBook, kept_paths, PathsCount, HistoricalCount}
 use Rattle.weight_classes.specs.Classes.{Classes, Rank, IsHeld}
-use Rattle.fixup_math.proofs.Counting.{count_without, count_unique, count_same, count_either, count_decides}
+use Rattle.apsp_model.proofs.Counting.{count_without, count_unique, count_same, count_either, count_decides}
 use Rattle.fixup_math.specs.Ranks.{ByWeightThenHops}
 use Rattle.fixup_math.proofs.Ranks.{weight_then_hops_is_rank}
 use Rattle.fixup_math.proofs.Settling.{settled}
@@ -20,7 +20,7 @@ use Rattle.fixup_math.proofs.Start.{vertex_of_one}
 use Rattle.fixup.proofs.Growth.{grown_weights, grown_births}
 use Rattle.fixup.proofs.Starting.{kept_is, historical_is, single_marked}
 use Rattle.fixup.specs.Views.{HeldIn, Kept, Marked, WonIn}
-use Rattle.fixup.specs.Growth.{IsAt}
+use Rattle.fixup.specs.Growth.{InvariantHolds}
 
 -- of a kind that grew, what is new is the difference
 pub count_difference : (P Q : List ℕ → Type 0) (m n : ℕ) → CountIs P m → CountIs Q n → ((p : List ℕ) → P p → Q p) → CountIs (λ p. Q p × (P p → ⊥)) (n - m)
@@ -43,7 +43,7 @@ with_edges b0 b K0 K n edge c = count_same (λ p. (K p × IsWithEdge p) × ((K0 
   λ h. elim (edge p h.0) [ inl long ↦ ((h.0, long), λ old. h.1 old.0) | inr old ↦ absurd (h.1 old) ],
 )) c
 
-module _ (g : Graph) (birth : ℕ) (b0 b : Book) (c : Classes) (lawful0 : IsBook b0) (s : IsAt g birth b0 b c) (same : b0.arena.vertices ≡ g.vertices) where
+module _ (g : Graph) (birth : ℕ) (b0 b : Book) (c : Classes) (lawful0 : IsBook b0) (s : InvariantHolds g birth b0 b c) (same : b0.arena.vertices ≡ g.vertices) where
   single_or_edge : (p : List ℕ) → Kept b p → IsWithEdge p ⊎ Marked b0 p
   single_or_edge p k = elim (cases_lt 1 (length p)) [
     | inl long ↦ inl long

@@ -1,4 +1,4 @@
--- What a settling only adds to a book: paths with a birth, and marks.
+-- What a settling only adds to a book: paths with a birth, and marks. Serves `form_edges`, `keep_joins` and the end.
 use Rattle.std.specs.Prelude.{◌≡◌, ℕ, ◌⊎◌, ◌↔◌, List, Option, Some, None, refl}
 use Rattle.std.proofs.Common.{sym, ◌∙◌, ap, inl, inr}
 use Rattle.std.proofs.lemmas.Bool.{cases_eq}

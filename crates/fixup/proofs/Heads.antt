@@ -1,4 +1,5 @@
--- The heads of the pairs: which of them are held before the first class.
+-- The heads of the pairs: which of them are held before the first class. Serves `hold_all`, `queue_heads` and
+-- `settle_paths`.
 use Rattle.std.specs.Prelude.{◌≡◌, ℕ, ◌+◌, ◌*◌, ◌<◌, ◌⊎◌, ◌↔◌, false, ◌≤◌, slice_index_or, List, [], ◌∷◌, length, take, get_or, Some, Result, Ok, Err, OnOk, refl, Contains}
 use Rattle.std.specs.FinSet as set
 use Rattle.std.proofs.Common.{sym, ◌∙◌, ap, subst, arith, inl, inr}
@@ -9,23 +10,22 @@ use Rattle.apsp_model.specs.Walk.{IsOnceEach, IsWalk, IsWalkFrom, first, last}
 use Rattle.apsp_model.specs.Least.{IsLeast}
 use Rattle.apsp_model.specs.Local.{IsLocal, IsVertex}
 use Rattle.apsp_model.proofs.Simples.{inside_walk}
+use Rattle.apsp_model.proofs.Members.{head_in, tail_in, in_nil}
 use Rattle.path_arena.specs.Arena.{Arena, IsLive, list_of}
 use Rattle.path_book.specs.Book.{Book, IsMarked, IsPendingLeast, HasNoPendingLeast, ArePendingLeasts}
 use Rattle.weight_classes.specs.Classes.{Classes, Rank, Fits, IsHeld, IsWon, IsPushed, rank_of}
 use Rattle.weight_classes.proofs.Held.{pushed_held}
-use Rattle.fixup_math.proofs.Counting.{head_in, tail_in, in_nil}
-use Rattle.fixup_math.specs.Settling.{IsQueued, IsLeastKept as IsLeastKeptOf}
+use Rattle.fixup_math.specs.Settling.{IsQueued, IsLeastKept as IsLeastKeptOf, IsSettling}
 use Rattle.fixup_math.proofs.Firsts.{queued_at_start}
-use Rattle.fixup_math.specs.Settling.{IsSettling}
 use Rattle.fixup_math.proofs.Settling.{settling_starts}
 use Rattle.fixup_math.proofs.Start.{IsCleaned, IsEdgeAt, walk_back, vertex_of_one}
 use Rattle.fixup.proofs.Adding.{once_before, take_cases, take_old, take_new}
 use Rattle.fixup.proofs.Promoting.{least_kept}
 use Rattle.fixup.proofs.Starting.{single_marked}
 use Rattle.fixup.specs.Views.{HeldIn, Kept, Marked, WonIn}
-use Rattle.fixup.specs.Growth.{AreHeadsQueued, IsAt, IsGrown, IsQueueing}
+use Rattle.fixup.specs.Growth.{HeadsAreHeld, InvariantHolds, IsGrown, ExactlyTheseAreHeld}
 
-pub queueing_starts : (a : Arena) (c : Classes) → Fits c a → ((u v : ℕ) → WonIn c u v → ⊥) → ((r : Rank) (id : ℕ) → IsHeld c r id → ⊥) → IsQueueing a [] c
+pub queueing_starts : (a : Arena) (c : Classes) → Fits c a → ((u v : ℕ) → WonIn c u v → ⊥) → ((r : Rank) (id : ℕ) → IsHeld c r id → ⊥) → ExactlyTheseAreHeld a [] c
 queueing_starts a c fits none_won empty = record {
   fits = fits;
   none_won = none_won;
@@ -33,8 +33,8 @@ queueing_starts a c fits none_won empty = record {
 }
 
 -- one id more
-pub queueing_step : (a : Arena) (heads : List ℕ) (i id : ℕ) (c later : Classes) → IsQueueing a (take i heads) c → i < length heads → id ≡ get_or heads i id → IsPushed c later a id → Fits later a → IsQueueing a (take (i + 1) heads) later
-queueing_step a heads i id c later s inside at pushed fits = record {
+pub held_step : (a : Arena) (heads : List ℕ) (i id : ℕ) (c later : Classes) → ExactlyTheseAreHeld a (take i heads) c → i < length heads → id ≡ get_or heads i id → IsPushed c later a id → Fits later a → ExactlyTheseAreHeld a (take (i + 1) heads) later
+held_step a heads i id c later s inside at pushed fits = record {
   fits = fits;
   none_won = λ u v w. s.none_won u v (subst (λ n. u < n) pushed.vertices w.0, subst (λ n. v < n) pushed.vertices w.1, won_before u v w.2);
   held = λ q. (
@@ -53,17 +53,17 @@ queueing_step a heads i id c later s inside at pushed fits = record {
     won_before u v w = (λ i. slice_index_or (sym pushed.won i) (u * (sym pushed.vertices i) + v) false) ∙ w
 
 -- it is not held yet
-pub head_fresh : (a : Arena) (heads : List ℕ) (i id : ℕ) (c : Classes) → IsOnceEach heads → IsQueueing a (take i heads) c → i < length heads → id ≡ get_or heads i id → (r : Rank) → IsHeld c r id → ⊥
+pub head_fresh : (a : Arena) (heads : List ℕ) (i id : ℕ) (c : Classes) → IsOnceEach heads → ExactlyTheseAreHeld a (take i heads) c → i < length heads → id ≡ get_or heads i id → (r : Rank) → IsHeld c r id → ⊥
 head_fresh a heads i id c once s inside at r h = once_before heads i id once inside at ((s.held id).0 (r, h))
 
-pub queueing_ends : (a : Arena) (heads : List ℕ) (i : ℕ) (c : Classes) → length heads ≤ i → IsQueueing a (take i heads) c → IsQueueing a heads c
-queueing_ends a heads i c past s = subst (λ ids. IsQueueing a ids c) (take_all i heads past) s
+pub held_ends : (a : Arena) (heads : List ℕ) (i : ℕ) (c : Classes) → length heads ≤ i → ExactlyTheseAreHeld a (take i heads) c → ExactlyTheseAreHeld a heads c
+held_ends a heads i c past s = subst (λ ids. ExactlyTheseAreHeld a ids c) (take_all i heads past) s
 
 -- what the book lists is live
 pub heads_live : (b : Book) (n : ℕ) (ids : List ℕ) → ArePendingLeasts b n ids → (id : ℕ) → Contains ids id → IsLive b.arena id
 heads_live b n ids are id here = (are.only id here).4.0.live
 
-pub heads_queued : {T E : Type 0} (b : Book) (heads : List ℕ) (c : Classes) → ArePendingLeasts b b.arena.vertices heads → (r : Result T E) → OnOk r (IsQueueing b.arena heads c) → OnOk r (AreHeadsQueued b c)
+pub heads_queued : {T E : Type 0} (b : Book) (heads : List ℕ) (c : Classes) → ArePendingLeasts b b.arena.vertices heads → (r : Result T E) → OnOk r (ExactlyTheseAreHeld b.arena heads c) → OnOk r (HeadsAreHeld b c)
 heads_queued b heads c are (Ok t) s = record { heads = heads; are = are; queueing = s }
 heads_queued b heads c are (Err e) s = s
 
@@ -109,7 +109,7 @@ settling_same g H0 H H1 K Q Won marks s = record {
     back p l = record { simple = l.simple; walk = l.walk; parts = λ q part. (marks q).0 (l.parts q part) }
 
 -- once all heads are held
-pub at_start : (g : Graph) (v birth : ℕ) (b0 b : Book) (c : Classes) → IsGrown g birth b0 b → b.marked ≡ b0.marked → ((id : ℕ) → IsMarked b0 id → list_of b.arena id ≡ list_of b0.arena id) → IsCleaned g v (Marked b0) (Kept b0) → ((p : List ℕ) → Kept b p ↔ (Kept b0 p ⊎ IsEdgeAt g v p)) → AreHeadsQueued b c → IsAt g birth b0 b c
+pub at_start : (g : Graph) (v birth : ℕ) (b0 b : Book) (c : Classes) → IsGrown g birth b0 b → b.marked ≡ b0.marked → ((id : ℕ) → IsMarked b0 id → list_of b.arena id ≡ list_of b0.arena id) → IsCleaned g v (Marked b0) (Kept b0) → ((p : List ℕ) → Kept b p ↔ (Kept b0 p ⊎ IsEdgeAt g v p)) → HeadsAreHeld b c → InvariantHolds g birth b0 b c
 at_start g v birth b0 b c grown marks lists cleaned formed s = record {
   grown = grown;
   fits = s.queueing.fits;

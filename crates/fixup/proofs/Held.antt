@@ -1,4 +1,4 @@
--- What the held ids are in a book that grows.
+-- What the held ids are in a book that grows. Serves `hold_all` and `join`.
 use Rattle.std.specs.Prelude.{◌≡◌, ℕ, ◌⊎◌, ◌↔◌, List, Option, is_some, unwrap_or, refl}
 use Rattle.std.proofs.Common.{sym, ◌∙◌, ap, inl, inr}
 use Rattle.path_arena.specs.Arena.{Arena, Path, path_at, list_of, IsLive, no_path}

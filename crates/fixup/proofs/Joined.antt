@@ -1,26 +1,16 @@
--- What a call that forms a join leaves.
+-- What a call that forms a join leaves. Serves `join`.
 use Rattle.std.specs.Prelude.{◌≡◌, ◌≢◌, ℕ, ◌<◌, Bool, true, false, List, [], ◌∷◌, ◌++◌, Some, None, is_some, unwrap_or, option_to_list, refl, Contains}
 use Rattle.std.proofs.Common.{sym, ◌∙◌, ap, subst, inl, inr}
 use Rattle.apsp_model.specs.Walk.{first, last}
-use Rattle.apsp_model.proofs.Lists.{first-append, last-push}
+use Rattle.apsp_model.proofs.Lists.{first-append, last-push, first_in, last_in}
 use Rattle.path_arena.specs.Arena.{Arena, path_at, list_of, IsLive, IsArena, no_path, joined_path}
 use Rattle.path_arena.proofs.Paths.{live_path, path_of_at, live_apart}
 use Rattle.path_book.specs.Book.{Book, with_kept, TellsLeastKept}
 use Rattle.pair_heaps.specs.Heaps.{HasEnds}
 use Rattle.weight_classes.specs.Classes.{Classes, Rank, Fits, IsHeld, IsPushed}
-use Rattle.fixup_math.proofs.Counting.{head_in, tail_in}
 use Rattle.fixup.specs.Joining.{IsFormed, IsJoined, IsQueuedIfLeast}
 use Rattle.fixup.proofs.Views.{path_new, path_still}
 use Rattle.fixup.proofs.Held.{fits_there}
-
-last_in : (p : List ℕ) (y : ℕ) → last p ≡ Some y → Contains p y
-last_in [] y e = cc
-last_in (z ∷ []) y e = head_in y z [] (let same : z ≡ y = cc in same)
-last_in (z ∷ u ∷ p) y e = tail_in y z (u ∷ p) (last_in (u ∷ p) y e)
-
-first_in : (p : List ℕ) (x : ℕ) → first p ≡ Some x → Contains p x
-first_in [] x e = cc
-first_in (z ∷ p) x e = head_in x z p (let same : z ≡ x = cc in same)
 
 in_vertices : (a : Arena) (id v : ℕ) → IsArena a → IsLive a id → Contains (list_of a id) v → v < a.vertices
 in_vertices a id v lawful live c =

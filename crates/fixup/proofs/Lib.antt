@@ -1,6 +1,7 @@
 pub mod Views
 pub mod Growth
 pub mod Held
+pub mod Parts
 pub mod Promoting
 pub mod Adding
 pub mod Searching

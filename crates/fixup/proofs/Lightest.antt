@@ -1,4 +1,4 @@
--- The least rank that is held, which rises from class to class, as a number.
+-- The least rank that is held, which rises from class to class, as a number. Serves `take_classes`, which ends by it.
 use Rattle.std.specs.Prelude.{◌≡◌, ℕ, ◌+◌, ◌-◌, ◌*◌, ◌<◌, ◌≤◌, ◌⊎◌, min, List, [], ◌∷◌, Contains, refl}
 use Rattle.std.proofs.Common.{ap, arith, inl, inr}
 use Rattle.std.proofs.lemmas.Bool.{cases_lt}

@@ -1,4 +1,4 @@
--- The joins of a class, pair by pair, as the calls make them.
+-- The joins of a class, pair by pair, as the calls make them. Serves `settle_class` and `keep_joins`.
 use Rattle.std.specs.Prelude.{◌≡◌, ◌≢◌, ℕ, ◌+◌, ◌-◌, ◌<◌, ◌≤◌, ◌⊎◌, List, [], ◌∷◌, ◌++◌, length, Some, None, is_some, unwrap_or, option_to_list, refl, Contains}
 use Rattle.std.proofs.Common.{sym, ◌∙◌, ap, subst, arith, inl, inr}
 use Rattle.std.proofs.lemmas.List.Elements.{Contains-append_left, Contains-push, Contains-push_cases}
@@ -15,7 +15,7 @@ use Rattle.path_book.specs.Book.{Book, IsMarked, IsBook, IsNewList}
 use Rattle.path_book.proofs.Readers.{single_or_edge}
 use Rattle.pair_heaps.specs.Heaps.{HasEnds}
 use Rattle.weight_classes.specs.Classes.{Classes, Fits, InOrder}
-use Rattle.fixup_math.proofs.Counting.{in_nil}
+use Rattle.apsp_model.proofs.Members.{in_nil}
 use Rattle.fixup_math.specs.Joins.{IsJoin, Then}
 use Rattle.fixup_math.proofs.Forming.{contains_push}
 use Rattle.fixup_math.specs.Ranks.{ByWeightThenHops}
@@ -23,75 +23,12 @@ use Rattle.fixup_math.proofs.Ranks.{weight_then_hops_is_rank}
 use Rattle.fixup_math.proofs.Batches.{IsPair, pair_joins, join_has_pair, joins_are_new}
 use Rattle.fixup.specs.declared.listing.Join.{Join}
 use Rattle.fixup.specs.Joining.{IsFormed, IsJoined, IsQueuedIfLeast}
-use Rattle.fixup.specs.Owing.{IsPromoted, IsOwed, ArePromoted}
+use Rattle.fixup.specs.Owing.{CanBeWinners, IsPromoted, IsOwed}
+use Rattle.fixup.proofs.Parts.{Parts, parts_of, meets_in, same_id, edge_from_left, edge_from_right, edge_from_long}
 use Rattle.fixup.proofs.Growth.{id_weight}
-use Rattle.fixup.proofs.Promoting.{promoting_starts, live_as, live_before, marked_then, joined_form, promoting_ends}
+use Rattle.fixup.proofs.Promoting.{stage_of, promoting_starts, live_as, live_before, marked_then, joined_form, promoting_ends}
 use Rattle.fixup.specs.Views.{HeldIn, Kept, Marked, WonIn}
-use Rattle.fixup.specs.Growth.{IsDone, IsForming, IsGrown, IsJoining, IsTaken, JoinOf, ListedIn}
-
--- a live path with a right part has an edge
-pub edge_from_right : (a : Arena) (id m : ℕ) → IsArena a → IsLive a id → right_of a id ≡ Some m → HasAnEdge a id
-edge_from_right a id m lawful live e =
-    let p = live_path a id live in
-    let of : path_of a id ≡ p.0 = path_of_at a id p.0 p.1 in
-    elim (lawful.paths id p.0 p.1).kind [
-      | inl single ↦ absurd (none_some m (sym (ap (λ q. q.right) (of ∙ single.3)) ∙ e))
-      | inr parts ↦ ap (λ q. is_some q.left) of ∙ ap is_some parts.left_is
-    ]
-  where
-    none_some : (m : ℕ) → None ≡ Some m → ⊥
-    none_some m e = cc
-
-same_id : (x y : ℕ) → Some x ≡ Some y → x ≡ y
-same_id x y e = cc
-
--- .. and so has one of two or more vertices
-pub edge_from_long : (a : Arena) (id : ℕ) → IsArena a → IsLive a id → 1 < length (list_of a id) → HasAnEdge a id
-edge_from_long a id lawful live long =
-    let p = live_path a id live in
-    let of : path_of a id ≡ p.0 = path_of_at a id p.0 p.1 in
-    elim (lawful.paths id p.0 p.1).kind [
-      | inl single ↦ absurd (omega (arith, long, ap (λ q. length q.list) (of ∙ single.3)))
-      | inr parts ↦ ap (λ q. is_some q.left) of ∙ ap is_some parts.left_is
-    ]
-
--- the lists of the two parts of a path with an edge
-pub edge_from_left : (a : Arena) (id m : ℕ) → left_of a id ≡ Some m → HasAnEdge a id
-edge_from_left a id m e = ap is_some e
-
-pub record Parts (a : Arena) (id : ℕ) : Type 0 where
-  pub left : ℕ
-  pub right : ℕ
-  pub left_is : left_of a id ≡ Some left
-  pub right_is : right_of a id ≡ Some right
-  pub long : 1 < length (list_of a id)
-  pub left_list : list_of a left ≡ left_part (list_of a id)
-  pub right_list : list_of a right ≡ right_part (list_of a id)
-  pub left_live : IsLive a left
-  pub right_live : IsLive a right
-
-pub parts_of : (a : Arena) (id : ℕ) → IsArena a → HasAnEdge a id → Parts a id
-parts_of a id lawful edge =
-    let p : Parted a id = parted a id lawful edge in
-    let list : list_of a id ≡ p.path.list = ap (λ q. q.list) p.of in
-    record {
-      left = p.parts.left;
-      right = p.parts.right;
-      left_is = ap (λ q. q.left) p.of ∙ p.parts.left_is;
-      right_is = ap (λ q. q.right) p.of ∙ p.parts.right_is;
-      long = let l : 1 < length p.path.list = p.parts.with_edge in omega (arith, ap length list);
-      left_list = p.parts.left_list ∙ ap left_part (sym list);
-      right_list = p.parts.right_list ∙ ap right_part (sym list);
-      left_live = p.parts.left_live;
-      right_live = p.parts.right_live;
-    }
-
--- two paths that meet overlap in all but their ends
-pub meets_in : (a : Arena) (l r : ℕ) → IsArena a → HasAnEdge a l → HasAnEdge a r → right_of a l ≡ left_of a r → right_part (list_of a l) ≡ left_part (list_of a r)
-meets_in a l r lawful edge_l edge_r meets =
-    let p : Parts a l = parts_of a l lawful edge_l in
-    let q : Parts a r = parts_of a r lawful edge_r in
-    sym p.right_list ∙ ap (list_of a) (same_id p.right q.left (sym p.right_is ∙ meets ∙ q.left_is)) ∙ q.left_list
+use Rattle.fixup.specs.Growth.{ClassIsSettled, JoinsAreFormed, IsGrown, PairsAreJoined, ClassIsTaken, JoinOf, ListedIn}
 
 -- a join weighs what its edges weigh
 pub joined_weight : (g : Graph) (birth : ℕ) (b0 b : Book) → IsGrown g birth b0 b → (l r u : ℕ) → HasAnEdge b.arena l → HasAnEdge b.arena r → right_of b.arena l ≡ left_of b.arena r → last (list_of b.arena r) ≡ Some u → IsWalk g (list_of b.arena r) → (joined_path b.arena l r birth).weight ≡ weight_of g (joined (list_of b.arena l) u)
@@ -110,7 +47,7 @@ joined_weight g birth b0 b s l r u edge_l edge_r meets ends walk =
 
 -- ---- the winners
 
-module _ (g : Graph) (birth : ℕ) (b0 : Book) (cl : List ℕ) (winners : List ℕ) (before : Book) (held : Classes) (t : IsTaken g birth b0 cl winners before held) where
+module _ (g : Graph) (birth : ℕ) (b0 : Book) (cl : List ℕ) (winners : List ℕ) (before : Book) (held : Classes) (t : ClassIsTaken g birth b0 cl winners before held) where
   pub winner_pending : (w : ℕ) → Contains winners w → IsMarked before w → ⊥
   winner_pending w c m = t.inside.todo_new (list_of before.arena w) (w, c, refl) (w, m, refl)
 
@@ -120,26 +57,12 @@ module _ (g : Graph) (birth : ℕ) (b0 : Book) (cl : List ℕ) (winners : List �
     | inr found ↦ found
   ]
 
-  winner_apart : (w : ℕ) → Contains winners w → right_of before.arena w ≡ left_of before.arena w → ⊥
-  winner_apart w c same =
-      let p : Parts before.arena w = parts_of before.arena w t.grown.lawful.arena (winner_edge w c) in
-      let local : IsLocal g (Marked before) (list_of before.arena w) = (t.inside.kept (list_of before.arena w)).0 (w, t.live w c, refl) in
-      let one : p.right ≡ p.left = same_id p.right p.left (sym p.right_is ∙ same ∙ p.left_is) in
-      let l : 1 < length (list_of before.arena w) = p.long in
-      ends_differ (list_of before.arena w) (omega (arith, l)) local.simple (sym p.left_list ∙ ap (list_of before.arena) (sym one) ∙ p.right_list)
-
-  -- what the listing needs
-  pub are_promoted : (b : Book) → IsPromoted before winners b → ArePromoted b winners
-  are_promoted b p = record {
-    lawful = p.lawful;
-    in_order = subst (λ (a : Arena). InOrder a winners) (sym p.arena) t.in_order;
-    marked = λ w c. (p.marks w).1 (inr c);
-    edge = λ w c. subst (λ (a : Arena). HasAnEdge a w) (sym p.arena) (winner_edge w c);
-    apart = λ w c. subst (λ (a : Arena). right_of a w ≡ left_of a w → ⊥) (sym p.arena) (winner_apart w c);
-  }
+  -- what promoting needs
+  pub can_be_winners : CanBeWinners before winners
+  can_be_winners = record { lawful = t.grown.lawful; in_order = t.in_order; edge = winner_edge }
 
   -- no pair is joined yet
-  pub joining_starts : (promoted : Book) → IsPromoted before winners promoted → IsJoining g birth b0 cl winners before held promoted [] promoted held
+  pub joining_starts : (promoted : Book) → IsPromoted before winners promoted → PairsAreJoined (stage_of g b0 cl winners before held promoted) birth [] promoted held
   joining_starts promoted p = record {
     done = [];
     forming = promoting_starts g birth b0 cl winners before held promoted t p;
@@ -149,8 +72,8 @@ module _ (g : Graph) (birth : ℕ) (b0 : Book) (cl : List ℕ) (winners : List �
 
 -- ---- which joins are formed
 
-module _ (g : Graph) (birth : ℕ) (b0 : Book) (cl : List ℕ) (winners : List ℕ) (before : Book) (held : Classes) (promoted : Book) (pairs : List Join) (b : Book) (c : Classes) (s : IsJoining g birth b0 cl winners before held promoted pairs b c) where
-  start : IsTaken g birth b0 cl winners before held
+module _ (g : Graph) (birth : ℕ) (b0 : Book) (cl : List ℕ) (winners : List ℕ) (before : Book) (held : Classes) (promoted : Book) (pairs : List Join) (b : Book) (c : Classes) (s : PairsAreJoined (stage_of g b0 cl winners before held promoted) birth pairs b c) where
+  start : ClassIsTaken g birth b0 cl winners before held
   start = s.forming.start
 
   lawful0 : IsBook before
@@ -308,9 +231,9 @@ module _ (g : Graph) (birth : ℕ) (b0 : Book) (cl : List ℕ) (winners : List �
     owed_more k m = elim (Contains-push_cases pairs j k m) [ inl old ↦ s.owed k old | inr new ↦ subst (IsOwed promoted winners) new o ]
 
     -- one pair more
-    pub pair_step : (Contains pairs j → ⊥) → (after : Book) (later : Classes) → IsJoined b c j.left j.right birth after later → IsBook after → Fits later after.arena → IsJoining g birth b0 cl winners before held promoted (pairs ++ j ∷ []) after later
+    pub pair_step : (Contains pairs j → ⊥) → (after : Book) (later : Classes) → IsJoined b c j.left j.right birth after later → IsBook after → Fits later after.arena → PairsAreJoined (stage_of g b0 cl winners before held promoted) birth (pairs ++ j ∷ []) after later
     pair_step once after later outcome lawful fits = elim outcome [
-      | inl same ↦ subst (λ (d : Classes). IsJoining g birth b0 cl winners before held promoted (pairs ++ j ∷ []) after d) (sym same.2) (subst (λ (a : Book). IsJoining g birth b0 cl winners before held promoted (pairs ++ j ∷ []) a c) (sym same.1) (record {
+      | inl same ↦ subst (λ (d : Classes). PairsAreJoined (stage_of g b0 cl winners before held promoted) birth (pairs ++ j ∷ []) after d) (sym same.2) (subst (λ (a : Book). PairsAreJoined (stage_of g b0 cl winners before held promoted) birth (pairs ++ j ∷ []) a c) (sym same.1) (record {
         done = s.done;
         forming = s.forming;
         owed = owed_more;
@@ -325,10 +248,10 @@ module _ (g : Graph) (birth : ℕ) (b0 : Book) (cl : List ℕ) (winners : List �
       | inr formed ↦ with_form formed.0 formed.1
     ]
       where
-        with_form : (first (list_of b.arena j.left) ≢ last (list_of b.arena j.right)) → IsFormed b c j.left j.right birth after later → IsJoining g birth b0 cl winners before held promoted (pairs ++ j ∷ []) after later
+        with_form : (first (list_of b.arena j.left) ≢ last (list_of b.arena j.right)) → IsFormed b c j.left j.right birth after later → PairsAreJoined (stage_of g b0 cl winners before held promoted) birth (pairs ++ j ∷ []) after later
         with_form apart f = record {
           done = s.done ++ (joined_path b.arena j.left j.right birth).list ∷ [];
-          forming = subst (λ (a : Book). IsForming g birth b0 cl winners before held promoted (s.done ++ (joined_path b.arena j.left j.right birth).list ∷ []) a later) (sym f.kept)
+          forming = subst (λ (a : Book). JoinsAreFormed (stage_of g b0 cl winners before held promoted) birth (s.done ++ (joined_path b.arena j.left j.right birth).list ∷ []) a later) (sym f.kept)
               (joined_form g birth b0 cl winners before held promoted s.done b c s.forming f.id (joined_path b.arena j.left j.right birth) f.fresh weight refl join f.from f.to later
               (subst (λ (a : Book). HasEnds a.arena f.id f.from f.to) f.kept f.ends)
               (subst (λ (a : Book). IsQueuedIfLeast a f.from f.to f.id c later) f.kept f.queued)
@@ -378,7 +301,7 @@ module _ (g : Graph) (birth : ℕ) (b0 : Book) (cl : List ℕ) (winners : List �
   ]
 
   -- where all owed pairs were joined the class is done
-  pub joining_ends : ((j : Join) → IsOwed promoted winners j → Contains pairs j) → IsDone g birth b0 cl b c
+  pub joining_ends : ((j : Join) → IsOwed promoted winners j → Contains pairs j) → ClassIsSettled g birth b0 cl b c
   joining_ends all = promoting_ends g birth b0 cl winners before held promoted s.done b c s.forming (λ p join.
       let h : (u : ℕ) × IsPair (Marked before) Winner (left_part p) (right_part p) u × (p ≡ joined (left_part p) u) = join_has_pair g (ByWeightThenHops g) (weight_then_hops_is_rank g) (Marked b0) (Marked before) (Kept before) (HeldIn before held) Winner (WonIn held) cl start.inside p join in
       let u : ℕ = h.0 in

@@ -1,4 +1,5 @@
--- The winners of a class are promoted, and then its joins are formed one behind another.
+-- The winners of a class are promoted, and then its joins are formed one behind another. Serves `settle_class` and
+-- `keep_joins`, by `Pairing`.
 use Rattle.std.specs.Prelude.{◌≡◌, ◌≢◌, ℕ, ◌+◌, ◌*◌, ◌<◌, ◌≤◌, ◌⊎◌, ◌↔◌, false, List, [], ◌∷◌, ◌++◌, length, Some, None, is_some, unwrap_or, slice_index_or, refl, Contains}
 use Rattle.std.specs.FinSet as set
 use Rattle.std.proofs.Common.{sym, ◌∙◌, ap, subst, arith, inl, inr}
@@ -14,23 +15,25 @@ use Rattle.path_book.specs.Book.{Book, IsMarked, IsBook, IsLeastKept, with_kept}
 use Rattle.pair_heaps.specs.Heaps.{HasEnds}
 use Rattle.weight_classes.specs.Classes.{Classes, Rank, Fits, IsHeld, IsPushed, IsWon}
 use Rattle.fixup_math.specs.Joins.{IsJoin, Then}
-use Rattle.fixup_math.proofs.Counting.{in_nil}
+use Rattle.apsp_model.proofs.Members.{in_nil}
 use Rattle.fixup_math.specs.Ranks.{IsRank, ByWeightThenHops}
 use Rattle.fixup_math.proofs.Ranks.{weight_then_hops_is_rank}
-use Rattle.fixup_math.specs.Settling.{IsLeastKept as IsLeastKeptOf}
-use Rattle.fixup_math.specs.Settling.{IsForming as IsFormingOf}
+use Rattle.fixup_math.specs.Settling.{IsLeastKept as IsLeastKeptOf, IsForming, IsSettling, IsInClass}
 use Rattle.fixup_math.proofs.Forming.{forming_starts, forms_pushed, forms_unpushed, contains_push}
-use Rattle.fixup_math.specs.Settling.{IsSettling}
 use Rattle.fixup_math.proofs.Settling.{apart_by_simple}
-use Rattle.fixup_math.specs.Settling.{IsInClass}
 use Rattle.fixup_math.proofs.Batches.{joins_are_above, joins_are_not_marked, queued_all, class_closes}
 use Rattle.fixup.specs.Joining.{IsQueuedIfLeast}
 use Rattle.fixup.proofs.Views.{kept_with, held_with, path_new, path_other, path_still, list_still}
 use Rattle.fixup.proofs.Growth.{grown_with, id_weight}
 use Rattle.fixup.proofs.Held.{held_pushed}
+use Rattle.fixup.specs.Stage.{Stage}
 use Rattle.fixup.specs.Views.{HeldIn, Kept, Marked, WonIn}
 use Rattle.fixup.specs.Owing.{IsPromoted}
-use Rattle.fixup.specs.Growth.{IsTaken, IsDone, IsGrown, IsForming, ListedIn}
+use Rattle.fixup.specs.Growth.{ClassIsTaken, ClassIsSettled, IsGrown, JoinsAreFormed, ListedIn}
+
+-- the stage of a class
+abbrev pub stage_of : Graph → Book → List ℕ → List ℕ → Book → Classes → Book → Stage
+stage_of g b0 cl winners before held promoted = record { graph = g; opening = b0; class = cl; winners = winners; before = before; held = held; promoted = promoted }
 
 -- the least kept path of a book is the least one of the graph's order
 pub least_kept : (g : Graph) (birth : ℕ) (b0 b : Book) → IsGrown g birth b0 b → ((p : List ℕ) → Kept b p → IsWalk g p) → (x y id : ℕ) → IsLeastKept b x y id → IsLeastKeptOf g (Kept b) x y (list_of b.arena id)
@@ -50,7 +53,7 @@ least_kept g birth b0 b s walks x y id l = record {
 
 -- ---- predicates that say the same
 
-forming_same : (g : Graph) (H K Rest : List ℕ → Type 0) (Won : ℕ → ℕ → Type 0) (done : List (List ℕ)) (K1 Q1 Q2 : List ℕ → Type 0) → ((p : List ℕ) → Q2 p ↔ Q1 p) → IsFormingOf g H K Rest Won done K1 Q1 → IsFormingOf g H K Rest Won done K1 Q2
+forming_same : (g : Graph) (H K Rest : List ℕ → Type 0) (Won : ℕ → ℕ → Type 0) (done : List (List ℕ)) (K1 Q1 Q2 : List ℕ → Type 0) → ((p : List ℕ) → Q2 p ↔ Q1 p) → IsForming g H K Rest Won done K1 Q1 → IsForming g H K Rest Won done K1 Q2
 forming_same g H K Rest Won done K1 Q1 Q2 same f = record {
   kept = f.kept;
   rest_held = λ p h. (same p).1 (f.rest_held p h);
@@ -118,7 +121,7 @@ module _ (g : Graph) (birth : ℕ) (b0 : Book) (cl : List ℕ) (winners : List �
   rank : IsRank g (ByWeightThenHops g)
   rank = weight_then_hops_is_rank g
 
-  pub promoting_starts : IsTaken g birth b0 cl winners before held → IsPromoted before winners promoted → IsForming g birth b0 cl winners before held promoted [] promoted held
+  pub promoting_starts : ClassIsTaken g birth b0 cl winners before held → IsPromoted before winners promoted → JoinsAreFormed (stage_of g b0 cl winners before held promoted) birth [] promoted held
   promoting_starts start promotion = record {
     start = start;
     promotion = promotion;
@@ -129,12 +132,12 @@ module _ (g : Graph) (birth : ℕ) (b0 : Book) (cl : List ℕ) (winners : List �
     won = refl;
     vertices = refl;
     joins = λ p c. absurd (in_nil p c);
-    forming = subst (λ (a : Arena). IsFormingOf g Promoted (Kept before) (HeldIn before held) (WonIn held) [] (λ p. (id : ℕ) × IsLive a id × (list_of a id ≡ p)) (λ p. (r : Rank) × (id : ℕ) × IsHeld held r id × (list_of a id ≡ p))) (sym promotion.arena)
+    forming = subst (λ (a : Arena). IsForming g Promoted (Kept before) (HeldIn before held) (WonIn held) [] (λ p. (id : ℕ) × IsLive a id × (list_of a id ≡ p)) (λ p. (r : Rank) × (id : ℕ) × IsHeld held r id × (list_of a id ≡ p))) (sym promotion.arena)
         (forming_starts g Promoted (Kept before) (HeldIn before held) (WonIn held)
         (queued_all g (ByWeightThenHops g) rank (Marked b0) (Marked before) (Kept before) (HeldIn before held) Winner (WonIn held) cl start.inside Promoted (λ p. (λ h. h, λ h. h))));
   }
 
-  module _ (done : List (List ℕ)) (b : Book) (c : Classes) (s : IsForming g birth b0 cl winners before held promoted done b c) where
+  module _ (done : List (List ℕ)) (b : Book) (c : Classes) (s : JoinsAreFormed (stage_of g b0 cl winners before held promoted) birth done b c) where
     inside : IsInClass g (ByWeightThenHops g) (Marked b0) (Marked before) (Kept before) (HeldIn before held) Winner (WonIn held) cl
     inside = s.start.inside
 
@@ -174,7 +177,7 @@ module _ (g : Graph) (birth : ℕ) (b0 : Book) (cl : List ℕ) (winners : List �
     -- one more of their joins is kept
     module _ (id : ℕ) (q : Path) (fresh : path_at b.arena id ≡ None) (weight : q.weight ≡ weight_of g q.list) (born : q.birth ≡ birth) (join : IsJoin g (Marked before) Winner q.list) (x y : ℕ) where
       -- it was not kept before
-      pub joined_form : (later : Classes) → HasEnds (with_kept b id q).arena id x y → IsQueuedIfLeast (with_kept b id q) x y id c later → IsBook (with_kept b id q) → Fits later (with_kept b id q).arena → IsForming g birth b0 cl winners before held promoted (done ++ q.list ∷ []) (with_kept b id q) later
+      pub joined_form : (later : Classes) → HasEnds (with_kept b id q).arena id x y → IsQueuedIfLeast (with_kept b id q) x y id c later → IsBook (with_kept b id q) → Fits later (with_kept b id q).arena → JoinsAreFormed (stage_of g b0 cl winners before held promoted) birth (done ++ q.list ∷ []) (with_kept b id q) later
       joined_form later ends queue lawful fits_later = record {
         start = s.start;
         promotion = s.promotion;
@@ -203,7 +206,7 @@ module _ (g : Graph) (birth : ℕ) (b0 : Book) (cl : List ℕ) (winners : List �
           walks_now : (p : List ℕ) → Kept (with_kept b id q) p → IsWalk g p
           walks_now p k = elim ((kept_with b id q fresh p).0 k) [ inl old ↦ walks p old | inr new ↦ subst (IsWalk g) (sym new) join.walk ]
 
-          with_push : IsLeastKept (with_kept b id q) x y id → IsPushed c later (with_kept b id q).arena id → IsFormingOf g Promoted (Kept before) (HeldIn before held) (WonIn held) (done ++ q.list ∷ []) (Kept (with_kept b id q)) (HeldIn (with_kept b id q) later)
+          with_push : IsLeastKept (with_kept b id q) x y id → IsPushed c later (with_kept b id q).arena id → IsForming g Promoted (Kept before) (HeldIn before held) (WonIn held) (done ++ q.list ∷ []) (Kept (with_kept b id q)) (HeldIn (with_kept b id q) later)
           with_push least pushed = forms_pushed g Promoted (Kept before) (HeldIn before held) (WonIn held) done (Kept b) (HeldIn b c) s.forming x y q.list walk_now (Kept (with_kept b id q)) (kept_with b id q fresh) (HeldIn (with_kept b id q) later)
               (λ p. let e : HeldIn (with_kept b id q) later p ↔ (HeldIn (with_kept b id q) c p ⊎ (p ≡ list_of (with_kept b id q).arena id)) = held_pushed (with_kept b id q) c later id pushed p in (
                 λ h. elim (e.0 h) [ inl old ↦ inl ((held_same p).0 old) | inr new ↦ inr (new ∙ list_now) ],
@@ -213,7 +216,7 @@ module _ (g : Graph) (birth : ℕ) (b0 : Book) (cl : List ℕ) (winners : List �
               (λ p h. (kept_with b id q fresh p).1 (inl (marked_kept_now p h)))
               (joins_are_not_marked g (ByWeightThenHops g) rank (Marked b0) (Marked before) (Kept before) (HeldIn before held) Winner (WonIn held) cl inside Promoted (λ p. (λ h. h, λ h. h)) q.list join)
 
-          without_push : (k : ℕ) → k ≢ id → IsLeastKept (with_kept b id q) x y k → later ≡ c → IsFormingOf g Promoted (Kept before) (HeldIn before held) (WonIn held) (done ++ q.list ∷ []) (Kept (with_kept b id q)) (HeldIn (with_kept b id q) later)
+          without_push : (k : ℕ) → k ≢ id → IsLeastKept (with_kept b id q) x y k → later ≡ c → IsForming g Promoted (Kept before) (HeldIn before held) (WonIn held) (done ++ q.list ∷ []) (Kept (with_kept b id q)) (HeldIn (with_kept b id q) later)
           without_push k apart least same =
               let l : IsLeastKeptOf g (Kept (with_kept b id q)) x y (list_of (with_kept b id q).arena k) = least_kept g birth b0 (with_kept b id q) grown_now walks_now x y k least in
               let live : IsLive b.arena k = ap is_some (sym (path_other b id q fresh k apart)) ∙ least.live in
@@ -230,7 +233,7 @@ module _ (g : Graph) (birth : ℕ) (b0 : Book) (cl : List ℕ) (winners : List �
               long_by_ends (z ∷ u ∷ p) e f = omega arith
 
     -- once all of their joins are formed the class is done
-    pub promoting_ends : ((p : List ℕ) → IsJoin g (Marked before) Winner p → Contains done p) → IsDone g birth b0 cl b c
+    pub promoting_ends : ((p : List ℕ) → IsJoin g (Marked before) Winner p → Contains done p) → ClassIsSettled g birth b0 cl b c
     promoting_ends all = record {
       at = record {
         grown = s.grown;

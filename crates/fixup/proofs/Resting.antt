@@ -1,4 +1,5 @@
--- Where nothing is held any more, the least kept path of each pair is historical.
+-- Where nothing is held any more, the least kept path of each pair is historical. Serves `settle_paths`, which notes
+-- that no pair is dirty.
 use Rattle.std.specs.Prelude.{◌≡◌, ℕ, List, refl}
 use Rattle.std.proofs.Common.{sym, ◌∙◌, ap, inl, inr}
 use Rattle.apsp_model.specs.Graph.{Graph}
@@ -15,9 +16,9 @@ use Rattle.fixup_math.proofs.Ranks.{weight_then_hops_is_rank}
 use Rattle.fixup_math.proofs.Settling.{settled}
 use Rattle.fixup.proofs.Growth.{id_weight}
 use Rattle.fixup.specs.Views.{HeldIn, Kept, Marked, WonIn}
-use Rattle.fixup.specs.Growth.{IsAt}
+use Rattle.fixup.specs.Growth.{InvariantHolds}
 
-module _ (g : Graph) (birth : ℕ) (b0 b : Book) (c : Classes) (s : IsAt g birth b0 b c) (x y : ℕ) where
+module _ (g : Graph) (birth : ℕ) (b0 b : Book) (c : Classes) (s : InvariantHolds g birth b0 b c) (x y : ℕ) where
   walk_of : (q : ℕ) → IsLive b.arena q → HasEnds b.arena q x y → IsWalkFrom g x y (list_of b.arena q)
   walk_of q live ends = record { walk = ((s.settling.kept (list_of b.arena q)).0 (q, live, refl)).walk; from = ends.0; to = ends.1 }
 

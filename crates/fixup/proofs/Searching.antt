@@ -1,4 +1,4 @@
--- A search among winners, which stand in the order of their pairs.
+-- A search among winners, which stand in the order of their pairs. Serves `is_winner`.
 use Rattle.std.specs.Prelude.{◌≡◌, ℕ, ◌+◌, ◌<◌, ◌≤◌, zero, suc, List, [], ◌∷◌, length, Contains}
 use Rattle.std.specs.Cmp.{IsTotalOrder}
 use Rattle.std.specs.Ordering.{ordering_reverse}

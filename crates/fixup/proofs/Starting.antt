@@ -1,4 +1,5 @@
--- The start of a settling: the edges at the vertex are formed, and the heads of the pairs are held.
+-- The start of a settling: the edges at the vertex are formed, and the heads of the pairs are held. Serves
+-- `form_edges` and `settle_paths`.
 use Rattle.std.specs.Prelude.{◌≡◌, ◌≢◌, ℕ, ◌+◌, ◌<◌, ◌⊎◌, ◌↔◌, true, ◌==◌, List, [], ◌∷◌, Option, Some, None, is_some, unwrap_or, refl}
 use Rattle.std.proofs.Common.{sym, ◌∙◌, ap, subst, arith, inl, inr}
 use Rattle.std.proofs.lemmas.Bool.{true≢false, or_cases, or_left, or_right, eqb-true, eq-eqb, cases_lt}
@@ -12,13 +13,13 @@ use Rattle.path_arena.specs.Arena.{edge_path, vertex_of}
 use Rattle.path_arena.proofs.Paths.{live_from, path_of_at}
 use Rattle.path_book.specs.Book.{Book, IsBook, IsNewList, kept_paths, kept_path}
 use Rattle.path_book.proofs.Kept.{kept_live, historical_marked, to_kept}
-use Rattle.fixup_math.proofs.Counting.{in_cons, in_nil}
+use Rattle.apsp_model.proofs.Members.{in_cons, in_nil}
 use Rattle.fixup_math.proofs.Start.{IsCleaned, IsEdgeAt, none_at, weight_back}
 use Rattle.fixup.specs.Starts.{IsEdgeFormed}
 use Rattle.fixup.proofs.Views.{kept_with}
 use Rattle.fixup.proofs.Growth.{grown_none, grown_with}
 use Rattle.fixup.specs.Views.{Kept, Marked}
-use Rattle.fixup.specs.Growth.{EdgesBy, IsEdging, IsGrown}
+use Rattle.fixup.specs.Growth.{EdgesBy, EdgesAreFormed, IsGrown}
 
 same_weight : (a b : ℕ) → Some a ≡ Some b → a ≡ b
 same_weight a b e = cc
@@ -62,8 +63,8 @@ module _ (g : Graph) (v birth : ℕ) (b0 : Book) (lawful : IsBook b0) (vertices 
 
   -- ---- the edges
 
-  pub edging_starts : IsEdging g v birth b0 0 0 b0
-  edging_starts = record {
+  pub edges_start : EdgesAreFormed g v birth b0 0 0 b0
+  edges_start = record {
     grown = grown_at_start;
     marks = refl;
     kept = λ p. (λ k. inl k, λ h. elim h [ inl old ↦ old | inr edge ↦ absurd (elim edge [ inl e ↦ let l : e.0 < 0 = e.1 in omega arith | inr e ↦ let l : e.0 < 0 = e.1 in omega arith ]) ]);
@@ -91,7 +92,7 @@ module _ (g : Graph) (v birth : ℕ) (b0 : Book) (lawful : IsBook b0) (vertices 
   first_two x y a b p q e = (cc, cc)
 
   -- the edge from v to i is not kept yet
-  pub out_new : (i j : ℕ) (b : Book) → IsEdging g v birth b0 i j b → IsGraph g → (w : ℕ) → weight_at g v i ≡ Some w → IsNewList b (v ∷ i ∷ [])
+  pub out_new : (i j : ℕ) (b : Book) → EdgesAreFormed g v birth b0 i j b → IsGraph g → (w : ℕ) → weight_at g v i ≡ Some w → IsNewList b (v ∷ i ∷ [])
   out_new i j b s graph w e id live same = elim ((s.kept (v ∷ i ∷ [])).0 (id, live, same)) [
     | inl old ↦ not_at_start v i (at_first i) old
     | inr edge ↦ elim edge [
@@ -100,7 +101,7 @@ module _ (g : Graph) (v birth : ℕ) (b0 : Book) (lawful : IsBook b0) (vertices 
     ]
   ]
 
-  pub in_new_edge : (i j : ℕ) (b : Book) → IsEdging g v birth b0 i j b → IsGraph g → (w : ℕ) → weight_at g j v ≡ Some w → IsNewList b (j ∷ v ∷ [])
+  pub in_new_edge : (i j : ℕ) (b : Book) → EdgesAreFormed g v birth b0 i j b → IsGraph g → (w : ℕ) → weight_at g j v ≡ Some w → IsNewList b (j ∷ v ∷ [])
   in_new_edge i j b s graph w e id live same = elim ((s.kept (j ∷ v ∷ [])).0 (id, live, same)) [
     | inl old ↦ not_at_start j v (at_second j) old
     | inr edge ↦ elim edge [
@@ -113,9 +114,9 @@ module _ (g : Graph) (v birth : ℕ) (b0 : Book) (lawful : IsBook b0) (vertices 
   below_or_here u i l = elim (cases_lt u i) [ inl less ↦ inl less | inr more ↦ inr (omega (arith, l, more)) ]
 
   -- the edge from v to i is formed where there is one
-  pub out_step : (i j : ℕ) (b : Book) → IsEdging g v birth b0 i j b → (after : Book) → IsEdgeFormed g b v i birth after → IsBook after → IsEdging g v birth b0 (i + 1) j after
+  pub out_step : (i j : ℕ) (b : Book) → EdgesAreFormed g v birth b0 i j b → (after : Book) → IsEdgeFormed g b v i birth after → IsBook after → EdgesAreFormed g v birth b0 (i + 1) j after
   out_step i j b s after h book = elim h [
-    | inl none ↦ subst (IsEdging g v birth b0 (i + 1) j) (sym none.1) (record {
+    | inl none ↦ subst (EdgesAreFormed g v birth b0 (i + 1) j) (sym none.1) (record {
       grown = s.grown;
       marks = s.marks;
       kept = λ p. (
@@ -129,7 +130,7 @@ module _ (g : Graph) (v birth : ℕ) (b0 : Book) (lawful : IsBook b0) (vertices 
         ]),
       );
     })
-    | inr made ↦ subst (IsEdging g v birth b0 (i + 1) j) (sym made.4) (record {
+    | inr made ↦ subst (EdgesAreFormed g v birth b0 (i + 1) j) (sym made.4) (record {
       grown = grown_with g birth b0 b s.grown made.1 (edge_path b.arena v i made.0 birth) made.3 (sym (weight_is v i made.0 made.2)) refl (subst IsBook made.4 book);
       marks = s.marks;
       kept = λ p. (
@@ -148,9 +149,9 @@ module _ (g : Graph) (v birth : ℕ) (b0 : Book) (lawful : IsBook b0) (vertices 
     })
   ]
 
-  pub in_step : (i j : ℕ) (b : Book) → IsEdging g v birth b0 i j b → (after : Book) → IsEdgeFormed g b j v birth after → IsBook after → IsEdging g v birth b0 i (j + 1) after
+  pub in_step : (i j : ℕ) (b : Book) → EdgesAreFormed g v birth b0 i j b → (after : Book) → IsEdgeFormed g b j v birth after → IsBook after → EdgesAreFormed g v birth b0 i (j + 1) after
   in_step i j b s after h book = elim h [
-    | inl none ↦ subst (IsEdging g v birth b0 i (j + 1)) (sym none.1) (record {
+    | inl none ↦ subst (EdgesAreFormed g v birth b0 i (j + 1)) (sym none.1) (record {
       grown = s.grown;
       marks = s.marks;
       kept = λ p. (
@@ -164,7 +165,7 @@ module _ (g : Graph) (v birth : ℕ) (b0 : Book) (lawful : IsBook b0) (vertices 
         ]),
       );
     })
-    | inr made ↦ subst (IsEdging g v birth b0 i (j + 1)) (sym made.4) (record {
+    | inr made ↦ subst (EdgesAreFormed g v birth b0 i (j + 1)) (sym made.4) (record {
       grown = grown_with g birth b0 b s.grown made.1 (edge_path b.arena j v made.0 birth) made.3 (sym (weight_is j v made.0 made.2)) refl (subst IsBook made.4 book);
       marks = s.marks;
       kept = λ p. (
@@ -215,7 +216,7 @@ module _ (g : Graph) (v birth : ℕ) (b0 : Book) (lawful : IsBook b0) (vertices 
                 simple = subst IsSimple (sym is) ((λ c. elim (in_cons x y [] c) [ inl same ↦ of.apart (sym same) | inr none ↦ in_nil x none ]), ((λ c. in_nil y c), tt));
               }
 
-  pub edges_done : IsGraph g → (b : Book) → IsEdging g v birth b0 g.vertices g.vertices b → (p : List ℕ) → Kept b p ↔ (Kept b0 p ⊎ IsEdgeAt g v p)
+  pub edges_done : IsGraph g → (b : Book) → EdgesAreFormed g v birth b0 g.vertices g.vertices b → (p : List ℕ) → Kept b p ↔ (Kept b0 p ⊎ IsEdgeAt g v p)
   edges_done graph b s p = (
     λ k. elim ((s.kept p).0 k) [ inl old ↦ inl old | inr edge ↦ inr ((edges_are graph p).0 edge) ],
     λ h. (s.kept p).1 (elim h [ inl old ↦ inl old | inr edge ↦ inr ((edges_are graph p).1 edge) ]),

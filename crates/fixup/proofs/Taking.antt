@@ -1,16 +1,19 @@
--- Winner by winner and pair by pair, as the loops take them.
+-- Winner by winner and pair by pair, as the loops take them. Serves `promote_all`, `keep_joins` and `settle_class`.
 use Rattle.std.specs.Prelude.{◌≡◌, ℕ, ◌+◌, ◌<◌, ◌≤◌, List, [], ◌∷◌, Contains, refl}
 use Rattle.std.proofs.Common.{sym, ◌∙◌, ap, subst, take, get_or, length, inl, inr}
 use Rattle.std.proofs.lemmas.List.{take_all}
 use Rattle.apsp_model.specs.Walk.{IsOnceEach, first, last}
-use Rattle.path_arena.specs.Arena.{Arena, IsLive, list_of, CanJoin, joined_path}
+use Rattle.apsp_model.proofs.Members.{in_nil}
+use Rattle.path_arena.specs.Arena.{Arena, IsLive, list_of, HasAnEdge, CanJoin, joined_path}
+use Rattle.path_arena.proofs.Paths.{live_from_edge}
 use Rattle.path_book.specs.Book.{Book, IsBook, IsMarked, IsNewList, with_mark}
-use Rattle.weight_classes.specs.Classes.{Classes, Fits}
-use Rattle.fixup_math.proofs.Counting.{in_nil}
+use Rattle.weight_classes.specs.Classes.{Classes, Fits, InOrder}
 use Rattle.fixup.specs.declared.listing.Join.{Join}
 use Rattle.fixup.specs.Joining.{IsJoined}
-use Rattle.fixup.specs.Owing.{IsPromoted, IsOwed, AreOwed}
-use Rattle.fixup.specs.Stages.{Stage, IsTakenAt, IsDoneAt, IsJoiningAt, AreOwedAt, AreJoinsReady}
+use Rattle.fixup.specs.Owing.{CanBeWinners, IsPromoted, IsOwed, AreOwed}
+use Rattle.fixup.specs.Stage.{Stage}
+use Rattle.fixup.specs.Growth.{PairsAreJoined}
+use Rattle.fixup.specs.Stages.{ClassIsTakenAt, ClassIsSettledAt, AreOwedAt, SomeClassOwes}
 use Rattle.fixup.proofs.Views.{mark_new, mark_still, mark_cases}
 use Rattle.fixup.proofs.Adding.{once_before, take_push, take_cases, take_old, take_new}
 use Rattle.fixup.proofs.Pairing.{joining_starts, joining_ends, pair_can, pair_fresh, pair_step, left_marked, right_marked, left_now, right_now}
@@ -25,8 +28,8 @@ promoted_none b winners lawful = record { lawful = lawful; arena = refl; marks =
     none (w ∷ ws) id c = in_nil id c
 
 module _ (b0 b : Book) (winners : List ℕ) (i w : ℕ) (inside : i < length winners) (at : w ≡ get_or winners i w) (p : IsPromoted b0 (take i winners) b) where
-  pub promote_live : ((v : ℕ) → Contains winners v → IsLive b0.arena v) → IsLive b.arena w
-  promote_live live = subst (λ (a : Arena). IsLive a w) (sym p.arena) (live w (i, inside, sym at))
+  pub promote_live : CanBeWinners b0 winners → IsLive b.arena w
+  promote_live class = subst (λ (a : Arena). IsLive a w) (sym p.arena) (live_from_edge b0.arena w class.lawful.arena (class.edge w (i, inside, sym at)))
 
   pub promote_pending : ((v : ℕ) → Contains winners v → IsMarked b0 v → ⊥) → IsOnceEach winners → IsMarked b w → ⊥
   promote_pending pending once m = elim ((p.marks w).0 m) [ inl old ↦ pending w (i, inside, sym at) old | inr earlier ↦ once_before winners i w once inside at earlier ]
@@ -53,6 +56,13 @@ module _ (b0 b : Book) (winners : List ℕ) (i w : ℕ) (inside : i < length win
 pub promoted_all : (b0 b : Book) (winners : List ℕ) (i : ℕ) → length winners ≤ i → IsPromoted b0 (take i winners) b → IsPromoted b0 winners b
 promoted_all b0 b winners i all p = subst (λ ws. IsPromoted b0 ws b) (take_all i winners all) p
 
+pub winners_then : (b0 b : Book) (winners : List ℕ) → CanBeWinners b0 winners → IsPromoted b0 winners b → CanBeWinners b winners
+winners_then b0 b winners class p = record {
+  lawful = p.lawful;
+  in_order = subst (λ (a : Arena). InOrder a winners) (sym p.arena) class.in_order;
+  edge = λ w c. subst (λ (a : Arena). HasAnEdge a w) (sym p.arena) (class.edge w c);
+}
+
 -- ---- the pairs are joined
 
 -- what a call needs of the two sides
@@ -66,18 +76,18 @@ pub record Sides (birth : ℕ) (b : Book) (c : Classes) (l r : ℕ) : Type 0 whe
   pub fits : Fits c b.arena
 
 module _ (birth : ℕ) (pairs : List Join) (b0 b : Book) (c0 c : Classes) (once : IsOnceEach pairs) (i : ℕ) (j : Join) (inside : i < length pairs) (at : j ≡ get_or pairs i j)
-    (before : (s : Stage) → IsJoiningAt s birth [] b0 c0 → AreOwedAt s pairs → IsJoiningAt s birth (take i pairs) b c) where
+    (before : (s : Stage) → PairsAreJoined s birth [] b0 c0 → AreOwedAt s pairs → PairsAreJoined s birth (take i pairs) b c) where
   there : Contains pairs j
   there = (i, inside, sym at)
 
   apart : Contains (take i pairs) j → ⊥
   apart = once_before pairs i j once inside at
 
-  pub pair_sides : AreJoinsReady birth pairs b0 c0 → Sides birth b c j.left j.right
+  pub pair_sides : SomeClassOwes birth pairs b0 c0 → Sides birth b c j.left j.right
   pair_sides ready =
       let s : Stage = ready.0 in
       let o : IsOwed s.promoted s.winners j = ready.2 j there in
-      let k : IsJoiningAt s birth (take i pairs) b c = before s ready.1 ready.2 in
+      let k : PairsAreJoined s birth (take i pairs) b c = before s ready.1 ready.2 in
       record {
         left_live = left_now s.graph birth s.opening s.class s.winners s.before s.held s.promoted (take i pairs) b c k j o;
         right_live = right_now s.graph birth s.opening s.class s.winners s.before s.held s.promoted (take i pairs) b c k j o;
@@ -88,14 +98,14 @@ module _ (birth : ℕ) (pairs : List Join) (b0 b : Book) (c0 c : Classes) (once 
         fits = k.forming.fits;
       }
 
-  pub pair_more : (after : Book) (later : Classes) → IsJoined b c j.left j.right birth after later → IsBook after → Fits later after.arena → (s : Stage) → IsJoiningAt s birth [] b0 c0 → AreOwedAt s pairs → IsJoiningAt s birth (take (i + 1) pairs) after later
+  pub pair_more : (after : Book) (later : Classes) → IsJoined b c j.left j.right birth after later → IsBook after → Fits later after.arena → (s : Stage) → PairsAreJoined s birth [] b0 c0 → AreOwedAt s pairs → PairsAreJoined s birth (take (i + 1) pairs) after later
   pair_more after later joined lawful fits s start owed =
-      let k : IsJoiningAt s birth (take i pairs) b c = before s start owed in
-      subst (λ ps. IsJoiningAt s birth ps after later) (sym (take_push pairs i j inside at))
+      let k : PairsAreJoined s birth (take i pairs) b c = before s start owed in
+      subst (λ ps. PairsAreJoined s birth ps after later) (sym (take_push pairs i j inside at))
       (pair_step s.graph birth s.opening s.class s.winners s.before s.held s.promoted (take i pairs) b c k j (owed j there) apart after later joined lawful fits)
 
-pub pairs_end : (birth : ℕ) (pairs : List Join) (b0 b : Book) (c0 c : Classes) (i : ℕ) → length pairs ≤ i → ((s : Stage) → IsJoiningAt s birth [] b0 c0 → AreOwedAt s pairs → IsJoiningAt s birth (take i pairs) b c) → (s : Stage) → IsJoiningAt s birth [] b0 c0 → AreOwedAt s pairs → IsJoiningAt s birth pairs b c
-pairs_end birth pairs b0 b c0 c i all before s start owed = subst (λ ps. IsJoiningAt s birth ps b c) (take_all i pairs all) (before s start owed)
+pub pairs_end : (birth : ℕ) (pairs : List Join) (b0 b : Book) (c0 c : Classes) (i : ℕ) → length pairs ≤ i → ((s : Stage) → PairsAreJoined s birth [] b0 c0 → AreOwedAt s pairs → PairsAreJoined s birth (take i pairs) b c) → (s : Stage) → PairsAreJoined s birth [] b0 c0 → AreOwedAt s pairs → PairsAreJoined s birth pairs b c
+pairs_end birth pairs b0 b c0 c i all before s start owed = subst (λ ps. PairsAreJoined s birth ps b c) (take_all i pairs all) (before s start owed)
 
 -- ---- the whole class
 
@@ -103,11 +113,11 @@ module _ (birth : ℕ) (winners : List ℕ) (before : Book) (held : Classes) (pr
   abbrev pub staged : Stage → Stage
   staged s = record { graph = s.graph; opening = s.opening; class = s.class; winners = winners; before = before; held = held; promoted = promoted }
 
-  pub staged_starts : (s : Stage) → IsTakenAt s birth winners before held → IsJoiningAt (staged s) birth [] promoted held
+  pub staged_starts : (s : Stage) → ClassIsTakenAt s birth winners before held → PairsAreJoined (staged s) birth [] promoted held
   staged_starts s t = joining_starts s.graph birth s.opening s.class winners before held t promoted promotion
 
-  pub staged_done : (s : Stage) → IsTakenAt s birth winners before held → (pairs : List Join) → AreOwed promoted winners pairs → (after : Book) (later : Classes)
-      → ((s : Stage) → IsJoiningAt s birth [] promoted held → AreOwedAt s pairs → IsJoiningAt s birth pairs after later) → IsDoneAt s birth after later
+  pub staged_done : (s : Stage) → ClassIsTakenAt s birth winners before held → (pairs : List Join) → AreOwed promoted winners pairs → (after : Book) (later : Classes)
+      → ((s : Stage) → PairsAreJoined s birth [] promoted held → AreOwedAt s pairs → PairsAreJoined s birth pairs after later) → ClassIsSettledAt s birth after later
   staged_done s t pairs owed after later done =
       joining_ends s.graph birth s.opening s.class winners before held promoted pairs after later
       (done (staged s) (staged_starts s t) (λ j c. (owed.are j).0 c)) (λ j o. (owed.are j).1 o)

@@ -1,4 +1,4 @@
--- Where a vertex has no edges yet, an opening or settled book is ready for a star at it.
+-- Where a vertex has no edges yet, an opening or settled book is ready for a star at it. Serves the tests alone.
 use Rattle.std.specs.Prelude.{◌≡◌, ℕ, ◌+◌, ◌<◌, ◌≤◌, ◌⊎◌, ◌↔◌, Bool, true, false, ◌==◌, if◌then◌else◌, List, [], Option, Some, None, is_some, refl}
 use Rattle.std.specs.FinMap as map
 use Rattle.std.proofs.Common.{sym, ◌∙◌, ap, subst, arith, inl, inr}

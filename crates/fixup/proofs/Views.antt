@@ -1,4 +1,4 @@
--- What a book and the held ids say of lists.
+-- What a book and the held ids say of lists, once a path is kept or marked. Serves all calls that change a book.
 use Rattle.std.specs.Prelude.{◌≡◌, ◌≢◌, ℕ, ◌⊎◌, ◌↔◌, ◌||◌, List, Some, None, is_some, unwrap_or}
 use Rattle.std.specs.Ordering.{nat_cmp, eq_by_cmp}
 use Rattle.std.specs.FinSet as set

@@ -1,4 +1,4 @@
--- From class to class, and the whole of a settling.
+-- From class to class, and the whole of a settling. Serves `take_classes` and `settle_paths`.
 use Rattle.std.specs.Prelude.{◌≡◌, ℕ, ◌+◌, ◌-◌, ◌*◌, ◌<◌, ◌≤◌, List, [], ◌∷◌, refl}
 use Rattle.std.specs.Ordering.{nat_cmp, ordering_then}
 use Rattle.std.specs.declared.cmp.Ordering.TheVariants.{Less}
@@ -13,8 +13,9 @@ use Rattle.path_arena.proofs.Paths.{live_path, path_of_at}
 use Rattle.path_arena.proofs.Puts.{weight_most, length_most}
 use Rattle.path_book.specs.Book.{Book, IsBook, IsMarked, kept_paths}
 use Rattle.weight_classes.specs.Classes.{Classes, Rank, IsLower, Fits, IsHeld, IsPopped, InOrder, first_of, last_of, rank_of}
-use Rattle.fixup.specs.Growth.{AreHeadsQueued, IsAt, IsEdging}
-use Rattle.fixup.specs.Stages.{Start, Stage, IsStarted, IsTakenAt, IsDoneAt, IsClassReady}
+use Rattle.fixup.specs.Growth.{HeadsAreHeld, InvariantHolds, EdgesAreFormed}
+use Rattle.fixup.specs.Stage.{Start, Stage}
+use Rattle.fixup.specs.Stages.{InvariantHoldsOfSomeStart, ClassIsTakenAt, ClassIsSettledAt, SomeClassIsTaken}
 use Rattle.fixup.proofs.Classing.{class_path, class_taken, class_weight, class_hops, class_one, class_one_in}
 use Rattle.fixup.proofs.Growth.{id_weight}
 use Rattle.fixup.proofs.Heads.{at_start}
@@ -32,15 +33,15 @@ each_once a (id ∷ ids) order = (λ more. same_is_not_less (first_of a id) (las
 
 -- ---- the next class
 
-module _ (g : Graph) (birth : ℕ) (b0 b : Book) (c : Classes) (s : IsAt g birth b0 b c) (later : Classes) (rank : Rank) (winners : List ℕ) (popped : IsPopped c later b.arena rank winners) (fits : Fits later b.arena) where
+module _ (g : Graph) (birth : ℕ) (b0 b : Book) (c : Classes) (s : InvariantHolds g birth b0 b c) (later : Classes) (rank : Rank) (winners : List ℕ) (popped : IsPopped c later b.arena rank winners) (fits : Fits later b.arena) where
   pub stage : Stage
   stage = record { graph = g; opening = b0; class = class_path g birth b0 b c s later rank winners popped fits; winners = winners; before = b; held = later; promoted = b }
 
-  pub stage_taken : IsTakenAt stage birth winners b later
+  pub stage_taken : ClassIsTakenAt stage birth winners b later
   unfolding stage
   stage_taken = class_taken g birth b0 b c s later rank winners popped fits
 
-  pub stage_done : (after : Book) (final : Classes) → IsDoneAt stage birth after final → IsAt g birth b0 after final
+  pub stage_done : (after : Book) (final : Classes) → ClassIsSettledAt stage birth after final → InvariantHolds g birth b0 after final
   unfolding stage
   stage_done after final done = done.at
 
@@ -63,7 +64,7 @@ module _ (g : Graph) (birth : ℕ) (b0 b : Book) (c : Classes) (s : IsAt g birth
       few_hops : (l h m : ℕ) → l ≤ m → 1 ≤ m → h ≡ l - 1 → h < m
       few_hops l h m upto some e = omega (arith, upto, some, e)
 
-  above : (after : Book) (final : Classes) → IsDoneAt stage birth after final → (r : Rank) (id : ℕ) → IsHeld final r id → number rank + 1 ≤ number r
+  above : (after : Book) (final : Classes) → ClassIsSettledAt stage birth after final → (r : Rank) (id : ℕ) → IsHeld final r id → number rank + 1 ≤ number r
   unfolding stage
   above after final done r id h =
       let is : rank_of after.arena id ≡ r = done.at.fits.ranks r id h in
@@ -75,7 +76,7 @@ module _ (g : Graph) (birth : ℕ) (b0 b : Book) (c : Classes) (s : IsAt g birth
       number_rises rank r lower (few c b s.fits s.grown.lawful.arena rank (class_one g birth b0 b c s later rank winners popped fits) (class_one_in g birth b0 b c s later rank winners popped fits)).0
 
   -- what is held ranks higher after each class
-  pub lighter : (after : Book) (final : Classes) → IsDoneAt stage birth after final → left_over final.held < left_over c.held
+  pub lighter : (after : Book) (final : Classes) → ClassIsSettledAt stage birth after final → left_over final.held < left_over c.held
   lighter after final done =
       let id : ℕ = class_one g birth b0 b c s later rank winners popped fits in
       let held : IsHeld c rank id = class_one_in g birth b0 b c s later rank winners popped fits in
@@ -89,15 +90,15 @@ module _ (g : Graph) (birth : ℕ) (b0 b : Book) (c : Classes) (s : IsAt g birth
 
 -- ---- the start
 
-pub starts : (g : Graph) (v birth : ℕ) (b0 b : Book) (c : Classes) → IsGraph g → IsBook b0 → b0.arena.vertices ≡ g.vertices → IsReady g v (kept_paths b0) → IsEdging g v birth b0 g.vertices g.vertices b → AreHeadsQueued b c → IsAt g birth b0 b c
-starts g v birth b0 b c graph lawful same ready edging queued =
-    at_start g v birth b0 b c edging.grown edging.marks lists (cleaned g v birth b0 lawful same ready) (edges_done g v birth b0 lawful same ready graph b edging)
+pub starts : (g : Graph) (v birth : ℕ) (b0 b : Book) (c : Classes) → IsGraph g → IsBook b0 → b0.arena.vertices ≡ g.vertices → IsReady g v (kept_paths b0) → EdgesAreFormed g v birth b0 g.vertices g.vertices b → HeadsAreHeld b c → InvariantHolds g birth b0 b c
+starts g v birth b0 b c graph lawful same ready formed_edges queued =
+    at_start g v birth b0 b c formed_edges.grown formed_edges.marks lists (cleaned g v birth b0 lawful same ready) (edges_done g v birth b0 lawful same ready graph b formed_edges)
     queued
   where
     lists : (id : ℕ) → IsMarked b0 id → list_of b.arena id ≡ list_of b0.arena id
     lists id m =
         let q = live_path b0.arena id (lawful.marked_live id m) in
-        let now = edging.grown.old id q.0 q.1 in
+        let now = formed_edges.grown.old id q.0 q.1 in
         ap (λ r. r.list) (path_of_at b.arena id q.0 now ∙ sym (path_of_at b0.arena id q.0 q.1))
 
 pub none_held : (c : Classes) → c.held ≡ [] → (r : Rank) (id : ℕ) → IsHeld c r id → ⊥
@@ -109,25 +110,25 @@ popped_here c later a d rank winners e p = subst (λ x. IsPopped c later x rank 
 pub fits_here : (c : Classes) (a d : Arena) → d ≡ a → Fits c d → Fits c a
 fits_here c a d e f = subst (λ x. Fits c x) e f
 
-module _ (birth : ℕ) (b0 b : Book) (c0 c : Classes) (before : (s : Start) → IsAt s.graph birth s.opening b0 c0 → IsAt s.graph birth s.opening b c) (started : IsStarted birth b0 c0)
+module _ (birth : ℕ) (b0 b : Book) (c0 c : Classes) (before : (s : Start) → InvariantHolds s.graph birth s.opening b0 c0 → InvariantHolds s.graph birth s.opening b c) (started : InvariantHoldsOfSomeStart birth b0 c0)
     (later : Classes) (lent : Arena) (same : lent ≡ b.arena) (rank : Rank) (winners : List ℕ) (popped : IsPopped c later lent rank winners) (fits : Fits later lent) (ids : List ℕ) (are : ids ≡ winners) where
-  taken_here : (g : Graph) (o : Book) (s : IsAt g birth o b c) → IsTakenAt (stage g birth o b c s later rank winners (popped_here c later b.arena lent rank winners same popped) (fits_here later b.arena lent same fits)) birth ids b later
+  taken_here : (g : Graph) (o : Book) (s : InvariantHolds g birth o b c) → ClassIsTakenAt (stage g birth o b c s later rank winners (popped_here c later b.arena lent rank winners same popped) (fits_here later b.arena lent same fits)) birth ids b later
   taken_here g o s =
       let p : IsPopped c later b.arena rank winners = popped_here c later b.arena lent rank winners same popped in
       let f : Fits later b.arena = fits_here later b.arena lent same fits in
-      subst (λ todo. IsTakenAt (stage g birth o b c s later rank winners p f) birth todo b later) (sym are) (stage_taken g birth o b c s later rank winners p f)
+      subst (λ todo. ClassIsTakenAt (stage g birth o b c s later rank winners p f) birth todo b later) (sym are) (stage_taken g birth o b c s later rank winners p f)
 
-  pub class_ready : IsClassReady birth ids b later
+  pub class_ready : SomeClassIsTaken birth ids b later
   class_ready =
       let g : Graph = started.0.graph in
       let o : Book = started.0.opening in
-      let s : IsAt g birth o b c = before started.0 started.1 in
+      let s : InvariantHolds g birth o b c = before started.0 started.1 in
       (stage g birth o b c s later rank winners (popped_here c later b.arena lent rank winners same popped) (fits_here later b.arena lent same fits), taken_here g o s)
 
-  module _ (after : Book) (final : Classes) (done : (s : Stage) → IsTakenAt s birth ids b later → IsDoneAt s birth after final) where
-    pub class_over : (s : Start) → IsAt s.graph birth s.opening b0 c0 → IsAt s.graph birth s.opening after final
+  module _ (after : Book) (final : Classes) (done : (s : Stage) → ClassIsTakenAt s birth ids b later → ClassIsSettledAt s birth after final) where
+    pub class_over : (s : Start) → InvariantHolds s.graph birth s.opening b0 c0 → InvariantHolds s.graph birth s.opening after final
     class_over s h =
-        let at : IsAt s.graph birth s.opening b c = before s h in
+        let at : InvariantHolds s.graph birth s.opening b c = before s h in
         let p : IsPopped c later b.arena rank winners = popped_here c later b.arena lent rank winners same popped in
         let f : Fits later b.arena = fits_here later b.arena lent same fits in
         stage_done s.graph birth s.opening b c at later rank winners p f after final (done (stage s.graph birth s.opening b c at later rank winners p f) (taken_here s.graph s.opening at))
@@ -136,7 +137,7 @@ module _ (birth : ℕ) (b0 b : Book) (c0 c : Classes) (before : (s : Start) → 
     class_falls =
         let g : Graph = started.0.graph in
         let o : Book = started.0.opening in
-        let at : IsAt g birth o b c = before started.0 started.1 in
+        let at : InvariantHolds g birth o b c = before started.0 started.1 in
         let p : IsPopped c later b.arena rank winners = popped_here c later b.arena lent rank winners same popped in
         let f : Fits later b.arena = fits_here later b.arena lent same fits in
         lighter g birth o b c at later rank winners p f after final (done (stage g birth o b c at later rank winners p f) (taken_here g o at))

@@ -1,4 +1,4 @@
--- What one join leaves of a book and of the held ids.
+-- What one join leaves of a book and of the held ids. No public clause cites this file.
 use Rattle.std.specs.Prelude.{◌≡◌, ◌≢◌, ℕ, ◌⊎◌, None}
 use Rattle.apsp_model.specs.Walk.{first, last}
 use Rattle.path_arena.specs.Arena.{path_at, list_of, joined_path}
@@ -8,7 +8,8 @@ use Rattle.weight_classes.specs.Classes.{Classes, IsPushed}
 
 -- a kept path from x to y is held where it is the least of its pair
 abbrev pub IsQueuedIfLeast : Book → ℕ → ℕ → ℕ → Classes → Classes → Type 0
-IsQueuedIfLeast b x y id old new = (IsLeastKept b x y id × IsPushed old new b.arena id) ⊎ ((q : ℕ) × (q ≢ id) × IsLeastKept b x y q × (new ≡ old))
+IsQueuedIfLeast b x y id old new =
+    (IsLeastKept b x y id × IsPushed old new b.arena id) ⊎ ((q : ℕ) × (q ≢ id) × IsLeastKept b x y q × (new ≡ old))
 
 -- the join of l and r is kept, with this birth
 pub record IsFormed (b : Book) (c : Classes) (l r birth : ℕ) (after : Book) (held : Classes) : Type 0 where

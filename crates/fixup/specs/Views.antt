@@ -1,4 +1,4 @@
--- What a book and the held ids say of lists.
+-- What a book and the held ids say of lists. No public clause cites this file.
 use Rattle.std.specs.Prelude.{◌≡◌, ℕ, ◌<◌, List}
 use Rattle.path_arena.specs.Arena.{list_of, IsLive}
 use Rattle.path_book.specs.Book.{Book, IsMarked}

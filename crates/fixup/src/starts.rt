@@ -7,7 +7,7 @@ ghost use Rattle.apsp_model.specs.Walk.{IsOnceEach};
 ghost use Rattle.path_arena.specs.Arena.{IsLive};
 ghost use Rattle.path_book.specs.Book.{IsBook, IsNewList, kept_paths};
 ghost use Rattle.fixup.specs.Starts.{IsEdgeFormed};
-ghost use Rattle.fixup.specs.Growth.{AreHeadsQueued, IsEdging, IsQueueing};
+ghost use Rattle.fixup.specs.Growth.{HeadsAreHeld, EdgesAreFormed, ExactlyTheseAreHeld};
 
 use apsp_model::Memory;
 use graph_store::Graph;
@@ -16,17 +16,24 @@ use path_book::Book;
 use std::alloc::Global;
 use weight_classes::Classes;
 
+/// Shows the prover that a book is lawful, as any reader of a book does.
+pub(crate) fn see_lawful(book: &Book)
+    ensures lawful { IsBook book.now }
+{
+    let _ = book.count_paths();
+}
+
 /// Keeps the edges at v.
 pub(crate) fn form_edges(book: &mut Book, graph: &Graph, v: u32, birth: u64) -> Result<(), Memory>
     requires same { book.old.arena.vertices ≡ graph.now.vertices }
     requires inside { v < graph.now.vertices }
     requires ready { IsReady graph.now v (kept_paths book.old) }
-    ensures formed { OnOk result (IsEdging graph.now v birth book.old graph.now.vertices graph.now.vertices book.new) }
+    ensures formed { OnOk result
+        (EdgesAreFormed graph.now v birth book.old graph.now.vertices graph.now.vertices book.new) }
     ensures lawful { OnErr result (IsBook book.new) }
 {
     let n = graph.vertices();
-    // Read for what any reader says of a book: that it is lawful.
-    let _ = book.count_paths();
+    see_lawful(book);
     'edges: for u in 0..n {
         form_edge(book, graph, v, u, birth)?;
         form_edge(book, graph, u, v, birth)?;
@@ -44,8 +51,7 @@ fn form_edge(book: &mut Book, graph: &Graph, from: u32, to: u32, birth: u64) -> 
     ensures lawful { IsBook book.new }
     ensures vertices { OnOk result (book.new.arena.vertices ≡ book.old.arena.vertices) }
 {
-    // Read for what any reader says of a book: that it is lawful.
-    let _ = book.count_paths();
+    see_lawful(book);
     if let Some(weight) = graph.weight(from, to) {
         book.form_edge(from, to, weight, birth)?;
     }
@@ -58,9 +64,9 @@ pub(crate) fn queue_heads(
     book: &mut Book,
     classes: &mut Classes,
 ) -> Result<(), Memory>
-    requires start { IsQueueing book.old.arena [] classes.old }
+    requires start { ExactlyTheseAreHeld book.old.arena [] classes.old }
     ensures same { book.new ≡ book.old }
-    ensures queued { OnOk result (AreHeadsQueued book.old classes.new) }
+    ensures queued { OnOk result (HeadsAreHeld book.old classes.new) }
 {
     let mut heads = Vec::new(alloc);
     book.pending_leasts(&mut heads)?;
@@ -69,10 +75,10 @@ pub(crate) fn queue_heads(
 
 /// Holds these paths.
 fn hold_all(arena: &Arena, classes: &mut Classes, heads: &[PathId]) -> Result<(), Memory>
-    requires start { IsQueueing arena.now [] classes.old }
+    requires start { ExactlyTheseAreHeld arena.now [] classes.old }
     requires live { (id : ℕ) → Contains heads.now id → IsLive arena.now id }
     requires once { IsOnceEach heads.now }
-    ensures held { OnOk result (IsQueueing arena.now heads.now classes.new) }
+    ensures held { OnOk result (ExactlyTheseAreHeld arena.now heads.now classes.new) }
 {
     'heads: for &id in heads {
         classes.push(arena, id)?;

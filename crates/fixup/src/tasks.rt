@@ -1,7 +1,9 @@
 //! The joins of a class, listed by one worker or by several.
 
 ghost use Rattle.std.specs.Prelude.{◌≡◌, ◌≤◌, length, OnOk};
-ghost use Rattle.fixup.specs.Owing.{ArePromoted, AreOwed};
+ghost use Rattle.apsp_model.specs.Limits.{IsWorkerCount};
+ghost use Rattle.fixup.specs.Owing.{CanBeWinners};
+ghost use Rattle.fixup.specs.Listing.{AreAdded, ListedByAny};
 
 use crate::listing::{Join, list_alone, list_winner};
 use apsp_io::Gate;
@@ -9,6 +11,7 @@ use apsp_model::{MOST_VERTICES, Memory};
 use path_arena::PathId;
 use path_book::Book;
 use std::alloc::Global;
+use std::cmp::Ordering;
 use std::marker::{Model, Sync};
 use std::thread::Threads;
 use task_pool::{Job, run_tasks};
@@ -17,42 +20,43 @@ use task_pool::{Job, run_tasks};
 /// about 20 µs of processor time, as much as looking at some thousands of partners.
 pub(crate) const MANY_PARTNERS: usize = 16_384;
 
-/// Who lists the joins of a class: so many workers, which pass the gate, where the winners have at
-/// least `many` partners.
+/// The workers that list the joins of a class, each of which passes the gate: so many where the
+/// winners have at least `many` partners, and else the caller alone.
 #[derive(Drop)]
-pub(crate) struct Crew<'a, R, G> {
-    pub(crate) rt: &'a R,
-    pub(crate) alloc: Global,
-    pub(crate) workers: u32,
-    pub(crate) gate: &'a G,
-    pub(crate) many: usize,
-    ghost some: { 1 ≤ workers },
-    ghost most: { workers ≤ 64 },
+pub struct Workers<'a, R, G> {
+    pub rt: &'a R,
+    pub alloc: Global,
+    pub count: u32,
+    pub gate: &'a G,
+    pub many: usize,
+    ghost bounded: { IsWorkerCount count },
 }
 
-/// The promoted winners of a class. The task of a winner lists the joins that it owes.
+/// The winners of a class. The task of a winner lists its joins.
 #[derive(Drop)]
-struct Owing<'a> {
+struct Listing<'a> {
     alloc: Global,
     book: &'a Book,
     winners: &'a [PathId],
+    order: Ordering,
 }
 
-impl<'a> Model for Owing<'a> {
-    ghost use Rattle.fixup.specs.Owing.{Class, class_code, ArePromoted};
+impl<'a> Model for Listing<'a> {
+    ghost use Rattle.fixup.specs.Owing.{CanBeWinners};
+    ghost use Rattle.fixup.specs.Listing.{Class, class_code};
 
     ghost Value = { Class };
 
     ghost coded = { class_code };
 
-    ghost view = { λ o. record { book = o.book.now; winners = o.winners.now } };
+    ghost view = { λ o. record { book = o.book.now; winners = o.winners.now; order = o.order } };
 
-    ghost invariant = { λ o. ArePromoted o.book.now o.winners.now };
+    ghost invariant = { λ o. CanBeWinners o.book.now o.winners.now };
 }
 
-impl<'a> Job for Owing<'a> {
+impl<'a> Job for Listing<'a> {
     ghost use Rattle.std.specs.Prelude.{length};
-    ghost use Rattle.fixup.specs.Owing.{ListsAt};
+    ghost use Rattle.fixup.specs.Listing.{ListsAt};
 
     type Out = Vec<Join>;
 
@@ -65,6 +69,7 @@ impl<'a> Job for Owing<'a> {
         list_winner(
             self.book,
             self.winners,
+            self.order,
             self.winners[task as usize],
             &mut joins,
         )?;
@@ -72,44 +77,55 @@ impl<'a> Job for Owing<'a> {
     }
 }
 
-/// Lists the joins that the promoted winners of a class owe, each once: of two historical paths, of
-/// which one is a winner or both are. Each is listed by one winner, for which the gate is passed.
+/// Lists the joins of each winner, one winner behind another. A partner that is a winner too yields
+/// where it stands in this order to the winner. The gate is passed for each.
 pub(crate) fn list_joins<R: Threads + Sync, G: Gate>(
-    crew: &Crew<'_, R, G>,
+    workers: &Workers<'_, R, G>,
     book: &Book,
     winners: &[PathId],
+    order: Ordering,
     joins: &mut Vec<Join>,
 ) -> Result<(), Memory>
-    requires promoted { ArePromoted book.now winners.now }
-    ensures owed { OnOk result (AreOwed book.now winners.now joins.new.items) }
+    requires class { CanBeWinners book.now winners.now }
+    ensures listed { OnOk result
+        (AreAdded (ListedByAny book.now winners.now order) joins.old.items joins.new.items) }
 {
-    if crew.workers > 1 && has_partners(book, winners, crew.many) {
+    if workers.count > 1 && has_partners(book, winners, workers.many) {
         if let Ok(tasks) = u32::try_from(winners.len()) {
-            return list_by_tasks(crew, book, winners, tasks, joins);
+            return list_by_tasks(workers, book, winners, order, tasks, joins);
         }
     }
-    list_alone(book, winners, joins, crew.gate)
+    list_alone(book, winners, order, joins, workers.gate)
 }
 
 /// Lists the joins of each winner by a task of its own, and puts the lists one behind another.
 fn list_by_tasks<R: Threads + Sync, G: Gate>(
-    crew: &Crew<'_, R, G>,
+    workers: &Workers<'_, R, G>,
     book: &Book,
     winners: &[PathId],
+    order: Ordering,
     tasks: u32,
     joins: &mut Vec<Join>,
 ) -> Result<(), Memory>
-    requires promoted { ArePromoted book.now winners.now }
+    requires class { CanBeWinners book.now winners.now }
     requires all { tasks ≡ length winners.now }
-    ensures owed { OnOk result (AreOwed book.now winners.now joins.new.items) }
+    ensures listed { OnOk result
+        (AreAdded (ListedByAny book.now winners.now order) joins.old.items joins.new.items) }
 {
-    let class = Owing {
-        alloc: crew.alloc,
+    let class = Listing {
+        alloc: workers.alloc,
         book,
         winners,
+        order,
     };
-    let lists = run_tasks(crew.rt, crew.alloc, crew.workers, tasks, &class, crew.gate)?;
-    joins.clear();
+    let lists = run_tasks(
+        workers.rt,
+        workers.alloc,
+        workers.count,
+        tasks,
+        &class,
+        workers.gate,
+    )?;
     'lists: for list in lists.answers() {
         let Ok(()) = joins.extend_from_slice(list.as_slice()) else {
             return Err(Memory);
@@ -121,7 +137,7 @@ fn list_by_tasks<R: Threads + Sync, G: Gate>(
 /// Whether the winners have at least so many partners in all. Each has at most one for each vertex
 /// on either side, so few winners need no look.
 fn has_partners(book: &Book, winners: &[PathId], many: usize) -> bool
-    requires promoted { ArePromoted book.now winners.now }
+    requires class { CanBeWinners book.now winners.now }
 {
     if winners.len() < many / (2 * MOST_VERTICES as usize) {
         return false;

@@ -1,12 +1,13 @@
 //! Tests of settling by calls.
 
 ghost use Rattle.std.specs.Prelude.{◌≡◌, ℕ, ◌<◌, ◌≤◌, IsTrue, IfOk, OnOk};
+ghost use Rattle.apsp_model.specs.Limits.{IsWorkerCount};
 ghost use Rattle.apsp_model.specs.Settled.{without_star, IsReady, IsSettled};
 ghost use Rattle.graph_store.specs.Making.{IsVertexCount};
 ghost use Rattle.path_book.specs.Book.{kept_paths};
 
 use crate::settling::settle_by;
-use crate::tasks::{Crew, MANY_PARTNERS};
+use crate::tasks::{MANY_PARTNERS, Workers};
 use crate::{Settled, settle};
 use apsp_io::OpenGate;
 use apsp_model::{MOST_VERTICES, Memory};
@@ -71,9 +72,9 @@ fn has_none_at(graph: &Graph, v: u32) -> bool
     true
 }
 
-/// Settles by the public call where the crew has its threshold.
+/// Settles by the public call where the workers have its threshold.
 fn settle_with<R: Threads + Sync>(
-    crew: &Crew<'_, R, OpenGate>,
+    workers: &Workers<'_, R, OpenGate>,
     book: &mut Book,
     graph: &Graph,
     v: u32,
@@ -82,28 +83,29 @@ fn settle_with<R: Threads + Sync>(
     requires same { book.old.arena.vertices ≡ graph.now.vertices }
     requires inside { v < graph.now.vertices }
     requires ready { IsReady graph.now v (kept_paths book.old) }
-    ensures settled { IfOk result (λ s. IsSettled graph.now birth (kept_paths book.old) (kept_paths book.new) s.formed s.promoted) }
+    ensures settled { IfOk result
+        (λ s. IsSettled graph.now birth (kept_paths book.old) (kept_paths book.new) s.formed s.promoted) }
     ensures vertices { OnOk result (book.new.arena.vertices ≡ book.old.arena.vertices) }
 {
-    if crew.many == MANY_PARTNERS {
+    if workers.many == MANY_PARTNERS {
         settle(
-            crew.rt,
-            crew.alloc,
+            workers.rt,
+            workers.alloc,
             book,
             graph,
             v,
             birth,
-            crew.workers,
-            crew.gate,
+            workers.count,
+            workers.gate,
         )
     } else {
-        settle_by(crew, book, graph, v, birth)
+        settle_by(workers, book, graph, v, birth)
     }
 }
 
 /// Puts a star in place at a vertex that has no edges yet, and settles.
 fn settle_star<R: Threads + Sync>(
-    crew: &Crew<'_, R, OpenGate>,
+    workers: &Workers<'_, R, OpenGate>,
     book: &mut Book,
     graph: &mut Graph,
     star: &Star,
@@ -114,14 +116,15 @@ fn settle_star<R: Threads + Sync>(
     requires ready { (v : ℕ) → without_star graph.old v ≡ graph.old → IsReady graph.old v (kept_paths book.old) }
     ensures graph { graph.new.vertices ≡ graph.old.vertices }
     ensures book { OnOk result (book.new.arena.vertices ≡ book.old.arena.vertices) }
-    ensures ready { OnOk result ((v : ℕ) → without_star graph.new v ≡ graph.new → IsReady graph.new v (kept_paths book.new)) }
+    ensures ready { OnOk result ((v : ℕ) → without_star graph.new v ≡ graph.new
+        → IsReady graph.new v (kept_paths book.new)) }
 {
     let v = star.vertex();
     if !has_none_at(graph, v) {
         return Err(Fail::from("the vertex has edges already"));
     }
     graph.apply(star);
-    let settled = settle_with(crew, book, graph, v, birth)?;
+    let settled = settle_with(workers, book, graph, v, birth)?;
     Ok(settled)
 }
 
@@ -151,18 +154,18 @@ fn put_edge(star: &mut Star, edge: Edge) -> Result<(), Fail>
 
 /// Settles step by step, and gives the book at the end and what each settling did.
 fn settle_steps<R: Threads + Sync>(
-    crew: &Crew<'_, R, OpenGate>,
+    workers: &Workers<'_, R, OpenGate>,
     n: u32,
     steps: &[Step<'_>],
 ) -> Result<(Book, Vec<(u64, u64)>), Fail>
     requires count { IsVertexCount n }
     ensures vertices { IfOk result (λ t. t.0.arena.vertices ≡ n) }
 {
-    let (mut graph, mut book) = opening(crew.alloc, n)?;
-    let mut all = Vec::new(crew.alloc);
+    let (mut graph, mut book) = opening(workers.alloc, n)?;
+    let mut all = Vec::new(workers.alloc);
     'steps: for &step in steps {
-        let star = star_with(crew.alloc, n, step.vertex, step.edges)?;
-        let settled = settle_star(crew, &mut book, &mut graph, &star, step.birth)?;
+        let star = star_with(workers.alloc, n, step.vertex, step.edges)?;
+        let settled = settle_star(workers, &mut book, &mut graph, &star, step.birth)?;
         all.push((settled.formed, settled.promoted))?;
     }
     Ok((book, all))
@@ -200,14 +203,14 @@ fn historical_hops(book: &Book, n: u32, x: u32, y: u32) -> Option<u32>
 
 /// Settles what the case says, and compares.
 fn check_with<R: Threads + Sync + Abort>(
-    crew: &Crew<'_, R, OpenGate>,
+    workers: &Workers<'_, R, OpenGate>,
     case: &Case<'_>,
 ) -> Result<(), Fail> {
-    let (rt, n) = (crew.rt, case.vertices);
+    let (rt, n) = (workers.rt, case.vertices);
     if n < 1 || n > MOST_VERTICES {
         return Err(Fail::from("no such number of vertices"));
     }
-    let (book, settled) = settle_steps(crew, n, case.steps)?;
+    let (book, settled) = settle_steps(workers, n, case.steps)?;
     assert_eq!(rt; settled.as_slice(), case.settled);
     assert_eq!(rt; (book.count_paths(), book.count_historical()), case.counts);
     for &(list, birth) in case.births {
@@ -224,20 +227,19 @@ fn check_with<R: Threads + Sync + Abort>(
 }
 
 /// So many workers, for classes with at least so many partners.
-fn crew_of<'a, R>(
+fn workers_of<'a, R>(
     rt: &'a R,
     alloc: Global,
     gate: &'a OpenGate,
     workers: u32,
     many: usize,
-) -> Crew<'a, R, OpenGate>
-    requires some { 1 ≤ workers }
-    requires most { workers ≤ 64 }
+) -> Workers<'a, R, OpenGate>
+    requires workers { IsWorkerCount workers }
 {
-    Crew {
+    Workers {
         rt,
         alloc,
-        workers,
+        count: workers,
         gate,
         many,
     }
@@ -246,9 +248,9 @@ fn crew_of<'a, R>(
 /// Settles what the case says, by the caller alone and with each class listed by tasks.
 fn check<R: Threads + Sync + Abort>(rt: &R, alloc: Global, case: &Case<'_>) -> Result<(), Fail> {
     let gate = &OpenGate;
-    check_with(&crew_of(rt, alloc, gate, 1, MANY_PARTNERS), case)?;
-    check_with(&crew_of(rt, alloc, gate, 2, 1), case)?;
-    check_with(&crew_of(rt, alloc, gate, 7, 1), case)
+    check_with(&workers_of(rt, alloc, gate, 1, MANY_PARTNERS), case)?;
+    check_with(&workers_of(rt, alloc, gate, 2, 1), case)?;
+    check_with(&workers_of(rt, alloc, gate, 7, 1), case)
 }
 
 /// Two edges of one weight are historical in one class, and their join is formed once.

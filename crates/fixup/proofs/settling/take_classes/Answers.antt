@@ -1,8 +1,8 @@
 use Rattle.fixup.proofs.Wholes.{class_ready, class_over, class_falls}
 use Rattle.fixup.proofs.settling.take_classes.Goals as goal
 
-pub settle_class-requires-clause-ready : goal.settle_class-requires-clause-ready
-settle_class-requires-clause-ready g c κs within = class_ready c.args.birth c.args.book.now c.classes.book c.args.classes.now c.classes.classes c.classes.invariant c.requires.started c.pop_class.new.self c.arena.result.now c.arena.ensures.lent c.in-Some.class.rank c.in-Some.class.winners c.in-Some.ensures.class c.in-Some.ensures.fits c.winners.result.now c.winners.ensures
+pub settle_class-requires-clause-taken : goal.settle_class-requires-clause-taken
+settle_class-requires-clause-taken g c κs within = class_ready c.args.birth c.args.book.now c.classes.book c.args.classes.now c.classes.classes c.classes.invariant c.requires.started c.pop_class.new.self c.arena.result.now c.arena.ensures.lent c.in-Some.class.rank c.in-Some.class.winners c.in-Some.ensures.class c.in-Some.ensures.fits c.winners.result.now c.winners.ensures
 
 -- the class drops one winner or none, or a list of them that stands in it or in memory of its own
 pub classes-smaller : goal.classes-smaller
