@@ -1,4 +1,4 @@
--- Which vertices are cleaned: the time of each vertex's latest update, and the powers of 2 one by one.
+-- Which vertices are cleaned: the time of each vertex's latest update, and the powers of 2 one by one. For `Timeline::cleaned` and `clean`.
 use Rattle.std.specs.Prelude.{◌≡◌, ◌≢◌, ℕ, zero, suc, ◌+◌, ◌-◌, ◌*◌, ◌%◌, ◌^◌, ◌<◌, ◌≤◌, Bool, true, ◌==◌, if◌then◌else◌, List, [], ◌∷◌, ◌++◌, length, drop, refl, Option, Some, None, option_to_list, option_and_then, slice_get}
 use Rattle.std.specs.List.{list_any}
 use Rattle.std.proofs.Common.{sym, ◌∙◌, ap, subst, arith, inl, inr}

@@ -1,4 +1,4 @@
--- Each question about a list of commands has an answer.
+-- Each question about a list of commands has an answer: for the one text of an input, which the session above states.
 use Rattle.std.specs.Prelude.{◌≡◌, ℕ, ◌+◌, ◌⊎◌, ◌↔◌, Bool, true, false, if◌then◌else◌, IsTrue, List, [], ◌∷◌, ◌++◌, length, refl, Contains}
 use Rattle.std.specs.List.{filter}
 use Rattle.std.specs.FinMap as map
@@ -13,9 +13,10 @@ use Rattle.apsp_model.specs.Counts.{CountIs, RemovedIs, PathsAre, HistoricalAre,
 use Rattle.apsp_model.proofs.Simples.{contained_or_not}
 use Rattle.apsp_model.proofs.Stars.{weight-star_of}
 use Rattle.fixup_math.proofs.Births.{IsBook, Left, formed_is, book_after, book_of}
-use Rattle.fixup_math.proofs.Counting.{in_cons, in_nil, head_in, tail_in, count_unique, count_same, count_none, count_more, count_decides}
-use Rattle.model_rows.proofs.Deciding.{Made, steps_from, kept_test, historical_test, vertex_test, birth_by}
-use Rattle.model_rows.proofs.Finding.{after, kept_test_is, historical_test_is, vertex_test_is, birth_is, in_filter, found, found_is}
+use Rattle.apsp_model.proofs.Members.{in_cons, in_nil, head_in, tail_in}
+use Rattle.apsp_model.proofs.Counting.{count_unique, count_same, count_none, count_more, count_decides}
+use Rattle.apsp_model.proofs.Deciding.{Made, steps_from, kept_test, historical_test, vertex_test, birth_by}
+use Rattle.apsp_model.proofs.Finding.{after, kept_test_is, historical_test_is, vertex_test_is, birth_is, in_filter, found, found_is}
 use Rattle.history_engine.proofs.Moments.{after_steps-append}
 
 -- ---- kinds that are decided

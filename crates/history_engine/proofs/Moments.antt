@@ -1,4 +1,4 @@
--- Steps from two moments that say the same lead to moments that say the same.
+-- Steps from two moments that say the same lead to moments that say the same: for `law_advance`.
 use Rattle.std.specs.Prelude.{◌≡◌, ℕ, ◌+◌, ◌↔◌, Bool, if◌then◌else◌, List, [], ◌∷◌, ◌++◌, length, refl, Contains}
 use Rattle.std.proofs.lemmas.List.{length-append}
 use Rattle.std.proofs.Common.{sym, ◌∙◌, ap, subst, arith, inl, inr}

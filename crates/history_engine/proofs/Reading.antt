@@ -1,4 +1,4 @@
--- What an engine's readers give: of a new engine, and of one whose kept paths are lawful.
+-- What an engine's readers give, of a new engine and of one whose kept paths are lawful: for `Engine::new`, `least` and `counts`.
 use Rattle.std.specs.Prelude.{◌≡◌, ℕ, ◌<◌, false, List, [], length, Option, Some, None, MatchOption, refl, Contains}
 use Rattle.std.specs.declared.cmp.Ordering.TheVariants.{Less}
 use Rattle.std.proofs.Common.{sym, ◌∙◌, ap, subst, arith, inl, inr}
@@ -13,7 +13,7 @@ use Rattle.apsp_model.specs.Kept.{opening, moment_of, IsWithEdge, IsKept, HasBir
 use Rattle.apsp_model.specs.Paths.{KeptPath, IsKeptIn, IsHistoricalIn, HasBirthIn, IsOncePerList, moment_in}
 use Rattle.apsp_model.proofs.Below.{upto_or_above}
 use Rattle.fixup_math.proofs.Births.{least_kept_is_least, none_kept_is_no_walk, book_of}
-use Rattle.fixup_math.proofs.Counting.{count_same}
+use Rattle.apsp_model.proofs.Counting.{count_same}
 use Rattle.fixup_math.specs.Settling.{IsLeastKept as IsFirst}
 use Rattle.path_arena.specs.Arena.{vertex_of, IsLive, path_of, list_of, weight_of, id_cmp, single}
 use Rattle.path_arena.proofs.Paths.{live_from, path_of_at}

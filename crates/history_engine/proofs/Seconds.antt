@@ -1,4 +1,4 @@
--- The second vertex of a path, as its record says it and as a version has it.
+-- The second vertex of a path, as its record says it and as a version has it: for `Least::second`.
 use Rattle.std.specs.Prelude.{◌≡◌, ℕ, List, [], ◌∷◌, Some}
 use Rattle.path_arena.specs.Arena.{second}
 use Rattle.version_face.specs.Entries.{second_of}

@@ -1,4 +1,4 @@
--- Star steps one behind the other: what stands between two steps of an update, and what it ends with.
+-- Star steps one behind the other, what stands between two steps of an update, and what it ends with: for `Engine::star` and `clean_one`.
 use Rattle.std.specs.Prelude.{◌≡◌, ℕ, ◌+◌, ◌<◌, ◌⊎◌, false, if◌then◌else◌, List, [], ◌∷◌, ◌++◌, length, refl, Contains, nat_lt}
 use Rattle.std.proofs.Common.{sym, ◌∙◌, ap, subst, arith, inl, inr}
 use Rattle.std.proofs.lemmas.Bool.{cases_lt, lt-ltb, le-ltb}
@@ -11,18 +11,19 @@ use Rattle.apsp_model.specs.Kept.{Moment, after_star, after_steps, IsWithEdge}
 use Rattle.apsp_model.specs.Counts.{RemovedIs, PathsAre}
 use Rattle.apsp_model.specs.Paths.{KeptPath, IsOncePerList, moment_in}
 use Rattle.fixup_math.proofs.Births.{IsBook}
-use Rattle.fixup_math.proofs.Counting.{in_cons, in_nil, head_in, tail_in, count_same}
+use Rattle.apsp_model.proofs.Members.{in_cons, in_nil, head_in, tail_in}
+use Rattle.apsp_model.proofs.Counting.{count_same}
 use Rattle.history_engine.specs.Seen.{Seen, moment_seen, paths_of, IsSame}
 use Rattle.history_engine.specs.Advance.{AdvanceByStar, steps_of_star}
-use Rattle.history_engine.specs.Lawful.{IsLawful}
-use Rattle.history_engine.specs.Stepping.{IsStepDone, IsUnderWay}
+use Rattle.history_engine.specs.Lawful.{IsMomentOf}
+use Rattle.history_engine.specs.Stepping.{IsStepDone, UpdateInvariant}
 use Rattle.history_engine.proofs.Moments.{same_chain, star_on}
 
 -- what is lawful is a book of the mathematics of settling, and the other way round
-pub to_book : (g : Graph) (m : Moment) → IsLawful g m → IsBook g m
+pub to_book : (g : Graph) (m : Moment) → IsMomentOf g m → IsBook g m
 to_book g m l = record { closed = l.closed; singles = l.singles; marked_kept = l.marked_kept; kept = l.kept; single_births = l.single_births; least = l.least }
 
-pub from_book : (g : Graph) (m : Moment) → IsBook g m → IsLawful g m
+pub from_book : (g : Graph) (m : Moment) → IsBook g m → IsMomentOf g m
 from_book g m b = record { closed = b.closed; singles = b.singles; marked_kept = b.marked_kept; kept = b.kept; single_births = b.single_births; least = b.least }
 
 -- a book stays one where the moment says the same
@@ -105,7 +106,7 @@ paths_are k ks once = record {
 -- ---- one step, and steps behind each other
 
 -- the update's own step
-pub first_step : (e : Seen) (s : Star) (g : Graph) (formed removed : ℕ) (paths : List KeptPath) → g ≡ star_of e.graph s → IsStepDone s.vertex g e.steps (paths_of e) paths formed removed → IsUnderWay e s g (if e.smooth then cleaned (e.vertices ++ s.vertex ∷ []) else []) (e.steps + 1) formed removed paths
+pub first_step : (e : Seen) (s : Star) (g : Graph) (formed removed : ℕ) (paths : List KeptPath) → g ≡ star_of e.graph s → IsStepDone s.vertex g e.steps (paths_of e) paths formed removed → UpdateInvariant e s g (if e.smooth then cleaned (e.vertices ++ s.vertex ∷ []) else []) (e.steps + 1) formed removed paths
 first_step e s g formed removed paths is done = record {
   made = Star_step s.vertex g ∷ [];
   rest = ap (λ h. with_cleaning (if e.smooth then cleaned (e.vertices ++ s.vertex ∷ []) else []) h (Star_step s.vertex h ∷ [])) is;
@@ -117,7 +118,7 @@ first_step e s g formed removed paths is done = record {
 }
 
 -- one cleaning step more
-pub cleaning_step : (e : Seen) (s : Star) (g : Graph) (v : ℕ) (left : List ℕ) (steps formed removed : ℕ) (paths : List KeptPath) (more_formed more_removed : ℕ) (after : List KeptPath) → IsUnderWay e s g (v ∷ left) steps formed removed paths → IsStepDone v g steps paths after more_formed more_removed → IsUnderWay e s g left (steps + 1) (formed + more_formed) (removed + more_removed) after
+pub cleaning_step : (e : Seen) (s : Star) (g : Graph) (v : ℕ) (left : List ℕ) (steps formed removed : ℕ) (paths : List KeptPath) (more_formed more_removed : ℕ) (after : List KeptPath) → UpdateInvariant e s g (v ∷ left) steps formed removed paths → IsStepDone v g steps paths after more_formed more_removed → UpdateInvariant e s g left (steps + 1) (formed + more_formed) (removed + more_removed) after
 cleaning_step e s g v left steps formed removed paths more_formed more_removed after w done = record {
   made = Star_step v g ∷ w.made;
   rest = w.rest;
@@ -134,7 +135,7 @@ cleaning_step e s g v left steps formed removed paths more_formed more_removed a
 
 -- the whole update, once no vertex is left to be cleaned
 pub update_done : (e : Seen) (s : Star) (after : Seen) → IsOncePerList (paths_of e) → after.opening ≡ e.opening → after.smooth ≡ e.smooth → after.graph ≡ star_of e.graph s → after.vertices ≡ e.vertices ++ s.vertex ∷ [] → after.spent ≡ false
-    → IsUnderWay e s after.graph [] after.steps after.formed after.removed (paths_of after) → AdvanceByStar e s after
+    → UpdateInvariant e s after.graph [] after.steps after.formed after.removed (paths_of after) → AdvanceByStar e s after
 update_done e s after once opening smooth graph vertices spent w = record {
   opening = opening;
   smooth = smooth;

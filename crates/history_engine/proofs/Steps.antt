@@ -1,4 +1,4 @@
--- One star step: what cleanup and settling leave is what the step of a star gives.
+-- One star step: what cleanup and settling leave is what the step of a star gives. For `step`.
 use Rattle.std.specs.Prelude.{◌≡◌, ℕ, ◌+◌, ◌<◌, ◌⊎◌, ◌↔◌, false, List, length, refl, Contains}
 use Rattle.std.proofs.Common.{sym, ◌∙◌, ap, subst, arith, inl, inr}
 use Rattle.apsp_model.specs.Graph.{Graph, weight_at}
@@ -9,7 +9,7 @@ use Rattle.apsp_model.specs.Counts.{CountIs}
 use Rattle.apsp_model.specs.Paths.{KeptPath, IsOncePerList, IsKeptIn, IsHistoricalIn, HasBirthIn, moment_in}
 use Rattle.apsp_model.specs.Settled.{IsCleaned, IsSettled}
 use Rattle.fixup_math.proofs.Births.{IsBook, Left, LeftHistorical, IsStep, step, formed_is, book_after}
-use Rattle.fixup_math.proofs.Counting.{count_same}
+use Rattle.apsp_model.proofs.Counting.{count_same}
 use Rattle.fixup_math.proofs.Start.{vertex_of_one}
 use Rattle.history_engine.specs.Seen.{IsSame}
 use Rattle.history_engine.proofs.Moments.{same_turned}

@@ -1,4 +1,4 @@
--- The steps of an update, from the calls that make them.
+-- The steps of an update, from the calls that make them: for `update`, `clean`, `clean_one` and `step`.
 use Rattle.std.specs.Prelude.{◌≡◌, ℕ, ◌+◌, ◌-◌, ◌*◌, ◌^◌, ◌<◌, ◌≤◌, ◌⊎◌, Bool, true, false, if◌then◌else◌, List, [], ◌∷◌, ◌++◌, length, Option, Some, None, option_to_list, Result, Ok, Err, IfOk, refl, Contains}
 use Rattle.std.specs.FinMap as map
 use Rattle.std.proofs.Common.{sym, ◌∙◌, ap, subst, arith, inl, inr}
@@ -13,10 +13,10 @@ use Rattle.apsp_model.specs.Paths.{KeptPath, IsOncePerList, IsKeptIn, moment_in}
 use Rattle.apsp_model.specs.Settled.{IsCleaned, AreLocal, IsSettled}
 use Rattle.apsp_model.proofs.Simples.{contained_or_not}
 use Rattle.apsp_model.proofs.Stars.{weight-star_of, weight-star_at, same_graph}
-use Rattle.fixup_math.proofs.Counting.{count_same, count_unique, count_either, count_decides, count_without}
+use Rattle.apsp_model.proofs.Counting.{count_same, count_unique, count_either, count_decides, count_without}
 use Rattle.history_engine.specs.Seen.{Seen, paths_of}
 use Rattle.history_engine.specs.Lawful.{AreLawful, IsStepReady}
-use Rattle.history_engine.specs.Stepping.{IsStepDone, IsUnderWay, IsBegun}
+use Rattle.history_engine.specs.Stepping.{IsStepDone, UpdateInvariant, StarIsInPlace}
 use Rattle.history_engine.specs.Times.{left_from}
 use Rattle.history_engine.proofs.Cleaning.{left_start, left_step, left_end}
 use Rattle.history_engine.proofs.Stepping.{to_book, first_step}
@@ -102,31 +102,31 @@ one_cleaned vs v w i e =
     left_step ws i ∙ ap (λ o. option_to_list o ++ left_from ws (i + 1)) at
 
 -- before the power of number i, after steps that began with so many steps, formed and removed paths
-pub record IsCleaning (g : Graph) (vs : List ℕ) (k f r : ℕ) (before : List KeptPath) (i steps formed removed : ℕ) (after : List KeptPath) : Type 0 where
-  pub on : (e : Seen) (s : Star) → IsUnderWay e s g (left_from vs 0) k f r before → IsUnderWay e s g (left_from vs i) steps formed removed after
+pub record CleaningInvariant (g : Graph) (vs : List ℕ) (k f r : ℕ) (before : List KeptPath) (i steps formed removed : ℕ) (after : List KeptPath) : Type 0 where
+  pub on : (e : Seen) (s : Star) → UpdateInvariant e s g (left_from vs 0) k f r before → UpdateInvariant e s g (left_from vs i) steps formed removed after
   pub lawful : AreLawful g steps after
   pub steps_few : steps ≤ k + i
   pub steps_more : k ≤ steps
   pub formed_few : formed ≤ 2 ^ 48 * (i + 1)
   pub removed_few : removed ≤ 2 ^ 48 * (i + 1)
 
-pub cleaning_done : (g : Graph) (vs : List ℕ) (v k f r : ℕ) (before : List KeptPath) (steps formed removed : ℕ) (after : List KeptPath) → length vs < 2 ^ 40 → IsCleaning g (vs ++ v ∷ []) k f r before 40 steps formed removed after
-    → (e : Seen) (s : Star) → IsUnderWay e s g (cleaned (vs ++ v ∷ [])) k f r before → IsUnderWay e s g [] steps formed removed after
+pub cleaning_done : (g : Graph) (vs : List ℕ) (v k f r : ℕ) (before : List KeptPath) (steps formed removed : ℕ) (after : List KeptPath) → length vs < 2 ^ 40 → CleaningInvariant g (vs ++ v ∷ []) k f r before 40 steps formed removed after
+    → (e : Seen) (s : Star) → UpdateInvariant e s g (cleaned (vs ++ v ∷ [])) k f r before → UpdateInvariant e s g [] steps formed removed after
 cleaning_done g vs v k f r before steps formed removed after few c e s w =
     let ws : List ℕ = vs ++ v ∷ [] in
     let over : left_from ws 40 ≡ [] = left_end ws 40 (let long : length ws ≡ length vs + 1 = long_one_more vs v in omega (arith, long, few)) in
-    subst (λ (left : List ℕ). IsUnderWay e s g left steps formed removed after) over (c.on e s (subst (λ (left : List ℕ). IsUnderWay e s g left k f r before) (left_start ws) w))
+    subst (λ (left : List ℕ). UpdateInvariant e s g left steps formed removed after) over (c.on e s (subst (λ (left : List ℕ). UpdateInvariant e s g left k f r before) (left_start ws) w))
 
 -- the star step of an update, where the update has begun
-pub begun : (e : Seen) (s : Star) (g : Graph) (cleans : Bool) (vs : List ℕ) (v k : ℕ) (before after : List KeptPath) (formed removed : ℕ) → IsBegun e s g cleans vs v k before → IsStepDone v g k before after formed removed → IsUnderWay e s g (if cleans then cleaned (vs ++ v ∷ []) else []) (k + 1) formed removed after
+pub begun : (e : Seen) (s : Star) (g : Graph) (cleans : Bool) (vs : List ℕ) (v k : ℕ) (before after : List KeptPath) (formed removed : ℕ) → StarIsInPlace e s g cleans vs v k before → IsStepDone v g k before after formed removed → UpdateInvariant e s g (if cleans then cleaned (vs ++ v ∷ []) else []) (k + 1) formed removed after
 begun e s g cleans vs v k before after formed removed b done =
     let at_vertex : IsStepDone s.vertex g k before after formed removed = subst (λ u. IsStepDone u g k before after formed removed) (sym b.vertex) done in
     let at_steps : IsStepDone s.vertex g e.steps before after formed removed = subst (λ n. IsStepDone s.vertex g n before after formed removed) (sym b.steps) at_vertex in
     let at_paths : IsStepDone s.vertex g e.steps (paths_of e) after formed removed = subst (λ (ps : List KeptPath). IsStepDone s.vertex g e.steps ps after formed removed) (sym b.paths) at_steps in
     let first = first_step e s g formed removed after b.graph at_paths in
     let left : (if e.smooth then cleaned (e.vertices ++ s.vertex ∷ []) else []) ≡ (if cleans then cleaned (vs ++ v ∷ []) else []) = (λ i. if b.smooth i then cleaned (b.vertices i ++ b.vertex i ∷ []) else []) in
-    subst (λ n. IsUnderWay e s g (if cleans then cleaned (vs ++ v ∷ []) else []) (n + 1) formed removed after) b.steps
-    (subst (λ (ws : List ℕ). IsUnderWay e s g ws (e.steps + 1) formed removed after) left first)
+    subst (λ n. UpdateInvariant e s g (if cleans then cleaned (vs ++ v ∷ []) else []) (n + 1) formed removed after) b.steps
+    (subst (λ (ws : List ℕ). UpdateInvariant e s g ws (e.steps + 1) formed removed after) left first)
 
 -- the star that a vertex had takes an update back
 pub taken_back : (g : Graph) (s : Star) (v : ℕ) → v ≡ s.vertex → star_of (star_of g s) (star_at g v) ≡ g
@@ -140,7 +140,7 @@ taken_back g s v e = same_graph (star_of (star_of g s) (star_at g v)) g refl (λ
     either true o q = refl
     either false o q = refl
 
-pub cleaning_starts : (g : Graph) (vs : List ℕ) (k f r : ℕ) (before : List KeptPath) → AreLawful g k before → f ≤ 2 ^ 48 → r ≤ 2 ^ 48 → IsCleaning g vs k f r before 0 k f r before
+pub cleaning_starts : (g : Graph) (vs : List ℕ) (k f r : ℕ) (before : List KeptPath) → AreLawful g k before → f ≤ 2 ^ 48 → r ≤ 2 ^ 48 → CleaningInvariant g vs k f r before 0 k f r before
 cleaning_starts g vs k f r before lawful few_formed few_removed = record {
   on = λ e s w. w;
   lawful = lawful;
@@ -151,10 +151,10 @@ cleaning_starts g vs k f r before lawful few_formed few_removed = record {
 }
 
 pub cleaning_more : (g : Graph) (vs : List ℕ) (k f r : ℕ) (before : List KeptPath) (i steps formed removed : ℕ) (paths : List KeptPath) (more_steps more_formed more_removed : ℕ) (after : List KeptPath)
-    → IsCleaning g vs k f r before i steps formed removed paths
-    → ((e : Seen) (s : Star) → IsUnderWay e s g (left_from vs i) steps formed removed paths → IsUnderWay e s g (left_from vs (i + 1)) more_steps more_formed more_removed after)
+    → CleaningInvariant g vs k f r before i steps formed removed paths
+    → ((e : Seen) (s : Star) → UpdateInvariant e s g (left_from vs i) steps formed removed paths → UpdateInvariant e s g (left_from vs (i + 1)) more_steps more_formed more_removed after)
     → AreLawful g more_steps after → more_steps ≤ steps + 1 → steps ≤ more_steps → more_formed ≤ 2 ^ 48 * (i + 2) → more_removed ≤ 2 ^ 48 * (i + 2)
-    → IsCleaning g vs k f r before (i + 1) more_steps more_formed more_removed after
+    → CleaningInvariant g vs k f r before (i + 1) more_steps more_formed more_removed after
 cleaning_more g vs k f r before i steps formed removed paths more_steps more_formed more_removed after c on lawful few more formed_few removed_few =
     let few_before : steps ≤ k + i = c.steps_few in
     let more_before : k ≤ steps = c.steps_more in

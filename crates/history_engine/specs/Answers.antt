@@ -17,7 +17,14 @@ abbrev pub IsSpentBy : Seen → Seen → Type 0
 IsSpentBy before after = after ≡ record before { spent = true; book = after.book }
 
 abbrev pub numbers : Counts → Numbers
-numbers c = record { updates = c.updates; steps = c.steps; paths = c.paths; historical = c.historical; formed = c.formed; removed = c.removed }
+numbers c = record {
+  updates = c.updates;
+  steps = c.steps;
+  paths = c.paths;
+  historical = c.historical;
+  formed = c.formed;
+  removed = c.removed;
+}
 
 -- the counts of what is seen
 pub record AreCounts (e : Seen) (c : Counts) : Type 0 where

@@ -1,4 +1,4 @@
--- What holds of the kept paths of an engine between two steps.
+-- What holds of the kept paths of an engine between two steps. No public clause cites this module.
 use Rattle.std.specs.Prelude.{◌≡◌, ℕ, ◌↔◌, List}
 use Rattle.apsp_model.specs.Graph.{Graph}
 use Rattle.apsp_model.specs.Star.{AgreeAway}
@@ -10,7 +10,7 @@ use Rattle.apsp_model.specs.Paths.{KeptPath, IsOncePerList, moment_in}
 use Rattle.apsp_model.specs.Settled.{HaveWeights}
 
 -- exactly what is local is kept, and each least walk is historical
-pub record IsLawful (g : Graph) (m : Moment) : Type 0 where
+pub record IsMomentOf (g : Graph) (m : Moment) : Type 0 where
   pub closed : IsClosedUnderParts m.historical
   pub singles : (p : List ℕ) → IsVertex g.vertices p → m.historical p
   pub marked_kept : (p : List ℕ) → m.historical p → m.kept p
@@ -20,7 +20,7 @@ pub record IsLawful (g : Graph) (m : Moment) : Type 0 where
 
 -- the kept paths are lawful in the graph, with their weights in it, and each stands once
 pub record AreLawful (g : Graph) (steps : ℕ) (paths : List KeptPath) : Type 0 where
-  pub lawful : IsLawful g (moment_in steps paths)
+  pub lawful : IsMomentOf g (moment_in steps paths)
   pub weights : HaveWeights g paths
   pub once : IsOncePerList paths
 

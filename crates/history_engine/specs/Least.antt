@@ -13,9 +13,12 @@ pub record LeastPath : Type 0 where
   pub id : ℕ
 
 abbrev pub least_code : Coded LeastPath
-least_code = code_by (Book × ℕ) (coded× book_code coded_ℕ) (λ l. (l.book, l.id)) (λ t. record { book = t.0; id = t.1 }) (λ _. refl)
+least_code =
+    code_by (Book × ℕ) (coded× book_code coded_ℕ) (λ l. (l.book, l.id)) (λ t. record { book = t.0; id = t.1 })
+    (λ _. refl)
 
--- the book is the engine's; the id is that of its least kept path of the pair, which is the least walk of the graph, with its weight
+-- the book is the engine's; the id is that of its least kept path of the pair, which is the least walk of the graph,
+-- with its weight
 pub record IsLeastPath (e : Seen) (x y : ℕ) (l : LeastPath) : Type 0 where
   pub book : l.book ≡ e.book
   pub lawful : IsBook l.book

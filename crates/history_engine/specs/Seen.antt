@@ -22,9 +22,24 @@ pub record Seen : Type 0 where
 
 abbrev pub seen_code : Coded Seen
 seen_code =
-    code_by (ℕ × (Graph × (Bool × (List ℕ × (ℕ × (ℕ × (ℕ × (Bool × Book)))))))) (coded× coded_ℕ (coded× graph_code (coded× coded_bool (coded× (coded_list coded_ℕ) (coded× coded_ℕ (coded× coded_ℕ (coded× coded_ℕ (coded× coded_bool book_code))))))))
+    code_by (ℕ × (Graph × (Bool × (List ℕ × (ℕ × (ℕ × (ℕ × (Bool × Book))))))))
+    (coded× coded_ℕ
+    (coded× graph_code
+    (coded× coded_bool
+    (coded× (coded_list coded_ℕ)
+    (coded× coded_ℕ (coded× coded_ℕ (coded× coded_ℕ (coded× coded_bool book_code))))))))
     (λ e. (e.opening, (e.graph, (e.smooth, (e.vertices, (e.steps, (e.formed, (e.removed, (e.spent, e.book)))))))))
-    (λ t. record { opening = t.0; graph = t.1.0; smooth = t.1.1.0; vertices = t.1.1.1.0; steps = t.1.1.1.1.0; formed = t.1.1.1.1.1.0; removed = t.1.1.1.1.1.1.0; spent = t.1.1.1.1.1.1.1.0; book = t.1.1.1.1.1.1.1.1 })
+    (λ t. record {
+      opening = t.0;
+      graph = t.1.0;
+      smooth = t.1.1.0;
+      vertices = t.1.1.1.0;
+      steps = t.1.1.1.1.0;
+      formed = t.1.1.1.1.1.0;
+      removed = t.1.1.1.1.1.1.0;
+      spent = t.1.1.1.1.1.1.1.0;
+      book = t.1.1.1.1.1.1.1.1;
+    })
     (λ _. refl)
 
 -- the kept paths

@@ -1,4 +1,5 @@
 -- Star steps one behind the other: what one leaves, and what stands between two steps of an update.
+-- No public clause cites this module.
 use Rattle.std.specs.Prelude.{◌≡◌, ℕ, ◌+◌, Bool, List, length, Contains}
 use Rattle.apsp_model.specs.Graph.{Graph}
 use Rattle.apsp_model.specs.Star.{Star, star_of}
@@ -15,10 +16,12 @@ pub record IsStepDone (v : ℕ) (g : Graph) (steps : ℕ) (before after : List K
   pub says : IsSame (moment_in (steps + 1) after) (after_star (moment_in steps before) v g)
   pub lawful : AreLawful g (steps + 1) after
   pub removed_is : CountIs (λ p. (moment_in steps before).kept p × IsWithEdge p × Contains p v) removed
-  pub formed_is : (a b : ℕ) → PathsAre (moment_in steps before) b → PathsAre (moment_in (steps + 1) after) a → formed + b ≡ a + removed
+  pub formed_is : (a b : ℕ) → PathsAre (moment_in steps before) b → PathsAre (moment_in (steps + 1) after) a
+      → formed + b ≡ a + removed
 
 -- between two steps of the update by the star s: the steps made so far, and the vertices that are still to be cleaned
-pub record IsUnderWay (e : Seen) (s : Star) (g : Graph) (left : List ℕ) (steps formed removed : ℕ) (paths : List KeptPath) : Type 0 where
+pub record UpdateInvariant (e : Seen) (s : Star) (g : Graph) (left : List ℕ) (steps formed removed : ℕ)
+    (paths : List KeptPath) : Type 0 where
   pub made : List Step
   pub rest : with_cleaning left g made ≡ steps_of_star e s
   pub says : IsSame (moment_in steps paths) (after_steps (moment_seen e) made)
@@ -28,7 +31,8 @@ pub record IsUnderWay (e : Seen) (s : Star) (g : Graph) (left : List ℕ) (steps
   pub lawful : AreLawful g steps paths
 
 -- the update by the star s has put its star in place, and no step was made yet
-pub record IsBegun (e : Seen) (s : Star) (g : Graph) (cleans : Bool) (vs : List ℕ) (v k : ℕ) (before : List KeptPath) : Type 0 where
+pub record StarIsInPlace (e : Seen) (s : Star) (g : Graph) (cleans : Bool) (vs : List ℕ) (v k : ℕ)
+    (before : List KeptPath) : Type 0 where
   pub graph : g ≡ star_of e.graph s
   pub smooth : e.smooth ≡ cleans
   pub vertices : e.vertices ≡ vs

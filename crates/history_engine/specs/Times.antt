@@ -1,4 +1,4 @@
--- The times of the updates.
+-- The times of the updates. No public clause cites this module.
 use Rattle.std.specs.Prelude.{◌≡◌, ℕ, ◌+◌, ◌-◌, ◌<◌, ◌≤◌, List, length, Some, slice_get, slice_index, vec_len}
 use Rattle.apsp_model.specs.Command.{cleaned_from}
 use Rattle.history_engine.specs.declared.timeline.Timeline.TheInside.{Inside}

@@ -27,8 +27,7 @@ impl Answers for Engine {
     }
 
     fn entry(&self, x: u32, y: u32) -> Option<Entry> {
-        // The graph has as many vertices as the engine.
-        let _graph = self.graph();
+        self.graph_has_each_vertex();
         let least = self.least(x, y)?;
         Some(Entry {
             dist: least.weight(),

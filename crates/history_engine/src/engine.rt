@@ -1,6 +1,8 @@
 //! The engine.
 
 ghost use Rattle.std.specs.Prelude.{◌≡◌, ◌<◌, ◌≤◌, ◌^◌, ◌↔◌, ℕ, List, [], length, true, false, IfOk, OnOk, MatchOption, All, Err};
+ghost use Rattle.apsp_model.specs.Limits.{IsWorkerCount};
+ghost use Rattle.apsp_model.specs.declared.TheConstants.{MOST_UPDATES};
 ghost use Rattle.apsp_model.specs.Command.{Command, Update};
 ghost use Rattle.apsp_model.specs.Counts.{CountsAre};
 ghost use Rattle.apsp_model.specs.Kept.{IsKept, HasBirth};
@@ -15,7 +17,7 @@ ghost use Rattle.history_engine.specs.declared.engine.EngineError.TheVariants as
 
 use crate::least::Least;
 use crate::timeline::Timeline;
-use crate::update::{Progress, update};
+use crate::update::{Progress, Workers, update};
 use apsp_io::Gate;
 use apsp_model::Memory;
 use graph_store::{Graph, MakeError, Star};
@@ -145,9 +147,8 @@ impl Engine {
         gate: &G,
     ) -> Result<Change, EngineError>
         requires same { star.now.vertices ≡ self.old.opening }
-        requires few { length self.old.vertices < 2 ^ 40 }
-        requires some_workers { 1 ≤ workers }
-        requires most_workers { workers ≤ 64 }
+        requires few { length self.old.vertices < MOST_UPDATES }
+        requires workers { IsWorkerCount workers }
         ensures advance { OnOk result (Advance self.old (Update star.now) self.new) }
         ensures change { IfOk result (IsChange self.old self.new) }
         ensures spent { (result ≡ Err error.Spent) ↔ (self.old.spent ≡ true) }
@@ -160,17 +161,20 @@ impl Engine {
         let v = star.vertex();
         self.graph.star_into(v, &mut self.before);
         self.graph.apply(star);
-        let made = update(
+        let by = Workers {
             rt,
-            self.alloc,
+            alloc: self.alloc,
+            count: workers,
+            gate,
+        };
+        let made = update(
+            &by,
             &mut self.book,
             &self.graph,
             &mut self.timeline,
             self.smooth,
             v,
             self.progress.steps,
-            workers,
-            gate,
         );
         match made {
             Ok(progress) => {
@@ -222,6 +226,13 @@ impl Engine {
         &self.graph
     }
 
+    /// Says to the prover that the graph has as many vertices as the engine, and does nothing.
+    pub(crate) fn graph_has_each_vertex(&self)
+        ensures { self.now.graph.vertices ≡ self.now.opening }
+    {
+        let _graph = self.graph();
+    }
+
     /// The book of the kept paths.
     pub fn book(&self) -> &Book
         requires { self.now.spent ≡ false }
@@ -245,7 +256,8 @@ impl Engine {
     pub fn counts(&self) -> Counts
         requires { self.now.spent ≡ false }
         ensures seen { AreCounts self.now result }
-        ensures counts { (commands : List Command) → Stands self.now commands → CountsAre self.now.opening self.now.smooth commands (numbers result) }
+        ensures counts { (commands : List Command) → Stands self.now commands
+            → CountsAre self.now.opening self.now.smooth commands (numbers result) }
     {
         Counts {
             updates: self.number(),
@@ -263,8 +275,11 @@ impl Engine {
         requires not_spent { self.now.spent ≡ false }
         requires some { 0 < length list.now }
         requires inside { All (λ v. v < self.now.opening) list.now }
-        ensures seen { MatchOption result (IsKeptIn (paths_of self.now) list.now → ⊥) (HasBirthIn (paths_of self.now) list.now) }
-        ensures birth { (commands : List Command) → Stands self.now commands → MatchOption result (IsKept self.now.opening self.now.smooth commands list.now → ⊥) (HasBirth self.now.opening self.now.smooth commands list.now) }
+        ensures seen { MatchOption result (IsKeptIn (paths_of self.now) list.now → ⊥)
+            (HasBirthIn (paths_of self.now) list.now) }
+        ensures birth { (commands : List Command) → Stands self.now commands
+            → MatchOption result (IsKept self.now.opening self.now.smooth commands list.now → ⊥)
+            (HasBirth self.now.opening self.now.smooth commands list.now) }
     {
         self.book.birth_of(list)
     }

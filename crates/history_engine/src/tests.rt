@@ -115,8 +115,7 @@ fn version_of(alloc: Global, engine: &Engine) -> Result<Version, Fail> {
         return Err(Fail::from("the engine is spent"));
     }
     let mut version = Version::new(alloc, engine.vertices())?;
-    // Read for what it says of the graph: that it has as many vertices.
-    let _ = engine.graph();
+    engine.graph_has_each_vertex();
     engine.fill(&mut version);
     Ok(version)
 }

@@ -24,7 +24,11 @@ impl Model for Timeline {
 
     ghost use Rattle.history_engine.specs.Times.{IsTimeline};
 
-    ghost view = { λ t. record { size = vec_len t.latest; vertices = t.vertices.items; room = vec_capacity t.vertices - vec_len t.vertices } };
+    ghost view = { λ t. record {
+      size = vec_len t.latest;
+      vertices = t.vertices.items;
+      room = vec_capacity t.vertices - vec_len t.vertices;
+    } };
 
     ghost invariant = { IsTimeline };
 }

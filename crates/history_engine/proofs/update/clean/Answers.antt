@@ -1,6 +1,6 @@
 use Rattle.std.proofs.Common.{ℕ, ◌≡◌, ◌+◌, ◌≤◌, ◌∷◌, [], ◌++◌, sym, ◌∙◌, arith, subst}
 use Rattle.path_book.specs.Book.{kept_paths}
-use Rattle.history_engine.proofs.Updating.{IsCleaning, cleaning_starts, cleaning_more, cleaning_done}
+use Rattle.history_engine.proofs.Updating.{CleaningInvariant, cleaning_starts, cleaning_more, cleaning_done}
 use Rattle.history_engine.proofs.update.clean.Goals as goal
 
 pub powers-init : goal.powers-init
@@ -34,7 +34,7 @@ powers-preserved g c = (
 pub returns-clause-done : goal.returns-clause-done
 returns-clause-done g c =
     let all : c.powers.power ≡ 40 = (let most : c.powers.power ≤ 40 = c.powers.auto.power-end in omega (arith, most, c.powers-test.false)) in
-    let F : ℕ → Type 0 = λ i. IsCleaning c.args.graph.now (c.args.timeline.now.vertices ++ c.args.v ∷ []) c.args.done.steps c.args.done.formed c.args.done.removed (kept_paths c.args.book.now) i c.powers.progress.steps c.powers.progress.formed c.powers.progress.removed (kept_paths c.powers.book) in
+    let F : ℕ → Type 0 = λ i. CleaningInvariant c.args.graph.now (c.args.timeline.now.vertices ++ c.args.v ∷ []) c.args.done.steps c.args.done.formed c.args.done.removed (kept_paths c.args.book.now) i c.powers.progress.steps c.powers.progress.formed c.powers.progress.removed (kept_paths c.powers.book) in
     cleaning_done c.args.graph.now c.args.timeline.now.vertices c.args.v c.args.done.steps c.args.done.formed c.args.done.removed (kept_paths c.args.book.now) c.powers.progress.steps c.powers.progress.formed c.powers.progress.removed (kept_paths c.powers.book) c.requires.few_updates (subst F all c.powers.invariant.0)
 
 pub returns-clause-steps_few : goal.returns-clause-steps_few

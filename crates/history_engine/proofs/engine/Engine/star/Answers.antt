@@ -6,7 +6,7 @@ use Rattle.apsp_model.specs.Star.{star_of}
 use Rattle.path_book.specs.Book.{kept_paths}
 use Rattle.history_engine.specs.Seen.{Seen, paths_of}
 use Rattle.history_engine.specs.Lawful.{IsStepReady}
-use Rattle.history_engine.specs.Stepping.{IsUnderWay}
+use Rattle.history_engine.specs.Stepping.{UpdateInvariant}
 use Rattle.history_engine.proofs.Updating.{star_ready, taken_back}
 use Rattle.history_engine.proofs.Stepping.{update_done}
 use Rattle.history_engine.proofs.engine.Engine.star.Given.{Over}
@@ -20,7 +20,7 @@ update-made-requires-clause-ready g c κs within =
     (subst (λ (h : Graph). IsStepReady c.args.star.now.vertex h steps paths) (sym c.apply.ensures.after) (star_ready c.self.inside.graph c.args.star.now steps paths (c.self.invariant.paths c.if-self.false)))
 
 -- all steps of the update were made
-made : (g : Over) (c : goal.After-len g) → IsUnderWay c.args.self.now c.args.star.now c.apply.new.self [] c.in-Ok.progress.steps c.in-Ok.progress.formed c.in-Ok.progress.removed (kept_paths c.update-made.new.book)
+made : (g : Over) (c : goal.After-len g) → UpdateInvariant c.args.self.now c.args.star.now c.apply.new.self [] c.in-Ok.progress.steps c.in-Ok.progress.formed c.in-Ok.progress.removed (kept_paths c.update-made.new.book)
 made g c = c.in-Ok.ensures.done c.args.self.now c.args.star.now (record {
   graph = c.apply.ensures.after ∙ ap (λ (e : Seen). star_of e.graph c.args.star.now) c.self.view_is;
   smooth = sym (ap (λ (e : Seen). e.smooth) c.self.view_is);
