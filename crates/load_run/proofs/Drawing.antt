@@ -1,4 +1,4 @@
--- Stars that are drawn edge by edge.
+-- Stars that are drawn edge by edge: for `draw_star`, `draw_out`, `draw_in` and `put_in`.
 use Rattle.std.specs.Prelude.{◌≡◌, ◌≢◌, ℕ, zero, suc, ◌+◌, ◌-◌, ◌<◌, ◌%◌, Bool, true, false, cond, ◌==◌, ◌&&◌, nat_lt, if◌then◌else◌, Option, Some, None, refl}
 use Rattle.std.specs.FinMap as map
 use Rattle.std.proofs.Common.{sym, ◌∙◌, ap, subst, inl, inr, arith}

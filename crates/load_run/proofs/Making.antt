@@ -1,4 +1,4 @@
--- Updates that are drawn and made one after another.
+-- Updates that are drawn and made one after another: for `make_updates`, and the report for `run_load`.
 use Rattle.std.specs.Prelude.{◌≡◌, ℕ, suc, ◌+◌, ◌*◌, ◌%◌, false, List, [], ◌∷◌, ◌++◌, length, refl}
 use Rattle.std.proofs.Common.{sym, ◌∙◌, ap, subst, arith, length-append}
 use Rattle.apsp_model.specs.Star.{Star}

@@ -1,4 +1,4 @@
--- Distances that are counted row by row.
+-- Distances that are counted row by row: for `count_distances` and `row_distances`.
 use Rattle.std.specs.Prelude.{◌≡◌, ◌≢◌, ℕ, suc, ◌+◌, ◌*◌, ◌<◌, ◌≤◌, false, ◌==◌, if◌then◌else◌, List, [], ◌∷◌, ◌++◌, length, Option, Some, None, MatchOption, refl}
 use Rattle.std.specs.List.{sum_by}
 use Rattle.std.specs.FinMap as map

@@ -1,4 +1,4 @@
--- The distances of a certificate, row by row.
+-- The distances of a certificate, row by row. No public clause cites this module.
 use Rattle.std.specs.Prelude.{◌≡◌, ℕ, ◌*◌, ◌≤◌, ◌==◌, if◌then◌else◌, length, Option, None}
 use Rattle.std.specs.List.{sum_by}
 use Rattle.std.specs.FinMap as map

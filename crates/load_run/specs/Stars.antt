@@ -1,4 +1,4 @@
--- Stars that are drawn in part.
+-- Stars that are drawn in part. No public clause cites this module.
 use Rattle.std.specs.Prelude.{◌≡◌, ℕ, ◌+◌, ◌-◌, Bool, not, ◌==◌, ◌&&◌, nat_lt, if◌then◌else◌, Option, None}
 use Rattle.std.specs.FinMap as map
 use Rattle.apsp_model.specs.Star.{Star}
@@ -24,4 +24,5 @@ pub record HasBoth (n v s u : ℕ) (star : Star) (last : ℕ) : Type 0 where
   pub vertex : star.vertex ≡ v
   pub place : last ≡ drawn s ((n - 1) + others_below v u)
   pub edges : (a b : ℕ) → map.get star.edges (a, b) ≡
-      (if b == v && is_done v u a then drawn_weight (drawn s (1 + ((n - 1) + others_below v a))) else out_below v s n a b)
+      (if b == v && is_done v u a then drawn_weight (drawn s (1 + ((n - 1) + others_below v a)))
+      else out_below v s n a b)

@@ -3,6 +3,7 @@
 #![tactic(auto)]
 
 ghost use Rattle.std.specs.Prelude.{◌≡◌, ◌≤◌, IfOk};
+ghost use Rattle.apsp_model.specs.Limits.{IsWorkerCount};
 ghost use Rattle.graph_store.specs.Making.{IsVertexCount};
 ghost use Rattle.load_run.specs.Report.{IsReport};
 
@@ -52,8 +53,7 @@ pub fn run_load<R: Threads + Sync, G: Gate>(
     gate: &G,
 ) -> Result<LoadReport, Memory>
     requires count { IsVertexCount n }
-    requires some_workers { 1 ≤ workers }
-    requires most_workers { workers ≤ 64 }
+    requires workers { IsWorkerCount workers }
     ensures { IfOk result (IsReport n seed) }
 {
     let Ok(mut engine) = Engine::new(alloc, n, false) else {

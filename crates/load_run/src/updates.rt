@@ -1,6 +1,7 @@
 //! The generated updates.
 
 ghost use Rattle.std.specs.Prelude.{◌≡◌, ◌≤◌, OnOk, false, []};
+ghost use Rattle.apsp_model.specs.Limits.{IsWorkerCount};
 ghost use Rattle.history_engine.specs.Advance.{Stands};
 ghost use Rattle.graph_store.specs.Making.{IsVertexCount};
 ghost use Rattle.load_run.specs.Draws.{load_updates};
@@ -25,8 +26,7 @@ pub fn make_updates<R: Threads + Sync, G: Gate>(
 ) -> Result<(), Memory>
     requires fresh { Stands engine.old [] }
     requires plain { engine.old.smooth ≡ false }
-    requires some_workers { 1 ≤ workers }
-    requires most_workers { workers ≤ 64 }
+    requires workers { IsWorkerCount workers }
     ensures stands { OnOk result (Stands engine.new (load_updates engine.old.opening seed)) }
     ensures opening { OnOk result (engine.new.opening ≡ engine.old.opening) }
     ensures plain { OnOk result (engine.new.smooth ≡ false) }
