@@ -1,4 +1,4 @@
--- One update more, and the end of the updates.
+-- One update more, and the end of the updates: for `publish_all`, `live_block` and `try_answer`.
 use Rattle.std.specs.Prelude.{◌≡◌, ◌⊎◌, ℕ, ◌+◌, ◌-◌, ◌<◌, ◌≤◌, ◌^◌, ◌↔◌, true, false, Result, Ok, Err, OnErr, List, [], ◌∷◌, ◌++◌, length, take, Some, slice_get, refl}
 use Rattle.std.proofs.Common.{sym, ◌∙◌, ap, subst, arith, inl, inr, length-append}
 use Rattle.std.proofs.lemmas.List.{take_all, take_more, length-take-le}

@@ -1,4 +1,4 @@
--- The answers of one reader, one after another.
+-- The answers of one reader, one after another: for `answer_all`.
 use Rattle.std.proofs.Common.{◌≡◌, ℕ, ◌+◌, ◌*◌, ◌<◌, ◌≤◌, List, [], ◌∷◌, ◌++◌, length, get_or, refl, ap, sym, ◌∙◌, subst, suc, suc-mul, arith, length-append}
 use mathlib.Core.Logic.{dite}
 use native.Mathlib.Decide.{dec_lt}

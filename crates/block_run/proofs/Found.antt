@@ -1,4 +1,4 @@
--- What a version answers, and what a reader answers from it.
+-- What a version answers, and what a reader answers from it: for `walk_of` and `answer_from`.
 use Rattle.std.specs.Prelude.{◌≡◌, ℕ, ◌≤◌, List, Option, Some, None, Result, Ok, Err, IfOk, IfSome, refl}
 use Rattle.std.proofs.Common.{sym, ◌∙◌, ap, subst}
 use Rattle.apsp_model.specs.Graph.{Graph}

@@ -1,4 +1,4 @@
--- Where the answers of the readers stand, question by question.
+-- Where the answers of the readers stand, question by question: for `read`, `run` and `live_block`.
 use Rattle.std.specs.Prelude.{◌≡◌, ℕ, zero, suc, ◌+◌, ◌*◌, ◌/◌, ◌%◌, ◌<◌, ◌≤◌, List, [], ◌∷◌, ◌++◌, length, map, slice_index_or, vec_len, All, Result, Ok, Err, IfOk, refl}
 use Rattle.std.proofs.Common.{sym, ◌∙◌, ap, subst, arith, get_or, append_assoc, Vec, Global}
 use Rattle.std.proofs.lemmas.List.{map-append, length-map}

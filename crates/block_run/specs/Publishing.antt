@@ -1,4 +1,4 @@
--- The publisher beside the engine.
+-- The publisher beside the engine. No public clause cites this module.
 use Rattle.std.specs.Prelude.{◌≡◌, ℕ, ◌+◌, false, length}
 use Rattle.graph_store.specs.Plan.{Plan, IsVersionOf}
 use Rattle.history_engine.specs.Seen.{Seen}

@@ -1,4 +1,4 @@
--- The readers, and what each of them answers.
+-- The readers, and what each of them answers. No public clause cites this module.
 use Rattle.std.specs.Prelude.{◌≡◌, ℕ, ◌+◌, ◌*◌, ◌<◌, ◌≤◌, List, All, Result, IfOk, length, slice_index_or}
 use Rattle.std.specs.declared.vec.Vec.{Vec}
 use Rattle.std.specs.declared.alloc.Global.{Global}
@@ -44,7 +44,8 @@ pub record IsAnswerSeen (plan : Plan) (ask : Ask) (least : ℕ) (reader : BlockR
 -- the answers to the questions who, who + step, who + 2 * step, .., so many, in numbers that do not fall
 pub record AnswersSome (plan : Plan) (asks : List Ask) (who step : ℕ) (answers : List Answer) : Type 0 where
   pub each : (k : ℕ) (d : Ask) (e : Answer) → k < length answers
-      → (who + k * step < length asks) × IsAnswer plan (slice_index_or asks (who + k * step) d) (slice_index_or answers k e)
+      → (who + k * step < length asks)
+      × IsAnswer plan (slice_index_or asks (who + k * step) d) (slice_index_or answers k e)
   pub rising : (j k : ℕ) (d : Answer) → j < k → k < length answers
       → (slice_index_or answers j d).number ≤ (slice_index_or answers k d).number
 
@@ -54,7 +55,9 @@ pub record AnswersAll (plan : Plan) (asks : List Ask) (who step : ℕ) (answers 
   pub whole : length asks ≤ who + length answers * step
 
 -- what the readers answer, each in its place, but for those that ran out of memory
-pub record AreLists (plan : Plan) (asks : List Ask) (readers : List BlockReader) (lists : List (Result (Vec Answer Global) Memory)) : Type 0 where
+pub record AreLists (plan : Plan) (asks : List Ask) (readers : List BlockReader)
+    (lists : List (Result (Vec Answer Global) Memory)) : Type 0 where
   pub len : length lists ≡ length readers
   pub each : (k : ℕ) (d : Result (Vec Answer Global) Memory) (e : BlockReader) → k < length readers
-      → IfOk (slice_index_or lists k d) (λ a. AnswersAll plan asks (slice_index_or readers k e).who (length readers) a.items)
+      → IfOk (slice_index_or lists k d)
+      (λ a. AnswersAll plan asks (slice_index_or readers k e).who (length readers) a.items)

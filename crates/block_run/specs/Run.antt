@@ -36,7 +36,8 @@ pub record CanRun (e : Seen) (plan : Plan) (asks : List Ask) : Type 0 where
   pub asks_of : All (IsAskOf plan) asks
 
 -- a block was run with so many readers, or memory ran out meanwhile
-pub record HasRun {E : Type 0} (readers : ℕ) (before : Seen) (plan : Plan) (asks : List Ask) (result : Result (List Answer) E) (after : Seen) : Type 0 where
+pub record HasRun {E : Type 0} (readers : ℕ) (before : Seen) (plan : Plan) (asks : List Ask)
+    (result : Result (List Answer) E) (after : Seen) : Type 0 where
   pub answers : IfOk result (BlockReply plan asks readers)
   pub taken : OnOk result (AdvancesBy before plan.stars after)
   pub memory : OnErr result (IsCutOff before plan.stars after)

@@ -10,9 +10,9 @@ mod publish;
 mod read;
 
 pub use answers::{Answer, BlockAnswers, VertexList};
+pub use apsp_model::MOST_READERS;
 pub use asks::{Ask, Asks};
 pub use live::live_block;
-pub use version_pool::MOST_READERS;
 
 #[cfg(test)]
 mod tests;

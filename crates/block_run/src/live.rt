@@ -1,6 +1,8 @@
 //! The block as a whole: the readers beside the publisher.
 
 ghost use Rattle.std.specs.Prelude.{◌≡◌, ℕ, ◌<◌, ◌≤◌, All, IfOk, IfSome, IsSomeAnd, OnOk, OnErr, vec_len, slice_index_or};
+ghost use Rattle.apsp_model.specs.declared.TheConstants.{MOST_READERS};
+ghost use Rattle.apsp_model.specs.Limits.{IsWorkerCount, IsReaderCount, IsSlotCount};
 ghost use Rattle.version_pool.specs.Pooled.{IsReaderOf};
 ghost use Rattle.block_run.specs.Answers.{BlockReply, IsAskOf};
 ghost use Rattle.block_run.specs.Run.{AdvancesBy, CanRun, IsCutOff};
@@ -15,7 +17,6 @@ use apsp_io::Gate;
 use apsp_model::Memory;
 use graph_store::Plan;
 use history_engine::Engine;
-use pin_cells::MOST_SLOTS;
 use std::alloc::Global;
 use std::marker::Sync;
 use std::sync::Wait;
@@ -23,7 +24,7 @@ use std::sync::atomic::AtomicBool;
 use std::thread;
 use std::thread::{Threads, join_mut};
 use version_face::Version;
-use version_pool::{MOST_READERS, Pool, PoolParts, Publisher};
+use version_pool::{Pool, PoolParts, Publisher};
 
 /// Takes the updates of the plan one after another, and publishes a version after each, while so
 /// many readers answer the questions. The question with number i is answered by the reader i modulo
@@ -48,9 +49,9 @@ pub fn live_block<R: Threads + Wait + Sync, G: Gate>(
     gate: &G,
 ) -> Result<BlockAnswers, Memory>
     requires can { CanRun engine.old plan.now asks.now }
-    requires readers { (1 ≤ readers) × (readers ≤ MOST_READERS) }
-    requires slots { (2 ≤ slots) × (slots ≤ MOST_SLOTS) }
-    requires workers { (1 ≤ workers) × (workers ≤ 64) }
+    requires readers { IsReaderCount readers }
+    requires slots { IsSlotCount slots }
+    requires workers { IsWorkerCount workers }
     ensures answers { IfOk result (BlockReply plan.now asks.now readers) }
     ensures taken { OnOk result (AdvancesBy engine.old plan.now.stars engine.new) }
     ensures memory { OnErr result (IsCutOff engine.old plan.now.stars engine.new) }
@@ -97,11 +98,12 @@ fn run<R: Threads + Wait + Sync, G: Gate>(
     requires can { CanPublish pool.now publisher.old engine.old plan.now }
     requires readers { All (λ r. IsReaderOf pool.now r.reader) readers.items }
     requires numbered { AreNumbered readers.items }
-    requires count { (1 ≤ vec_len readers) × (vec_len readers ≤ 32) }
+    requires count { IsReaderCount (vec_len readers) }
     requires asks { All (IsAskOf plan.now) asks.now }
-    requires workers { (1 ≤ workers) × (workers ≤ 64) }
+    requires workers { IsWorkerCount workers }
     ensures len { IfOk result (λ v. vec_len v ≡ vec_len readers) }
-    ensures each { IfOk result (λ v. (k : ℕ) (d : _) → k < vec_len readers → AnswersAll plan.now asks.now k (vec_len readers) (slice_index_or v.items k d).items) }
+    ensures each { IfOk result (λ v. (k : ℕ) (d : _) → k < vec_len readers
+        → AnswersAll plan.now asks.now k (vec_len readers) (slice_index_or v.items k d).items) }
     ensures taken { OnOk result (AdvancesBy engine.old plan.now.stars engine.new) }
     ensures cut_off { IsCutOff engine.old plan.now.stars engine.new }
 {
@@ -128,9 +130,9 @@ fn run_beside<R: Threads + Wait + Sync, G: Gate>(
 ) -> Result<Vec<Result<Vec<Answer>, Memory>>, Memory>
     requires can { CanPublish pool.now publisher.old engine.old plan.now }
     requires readers { All (λ r. IsReaderOf pool.now r.reader) readers.items }
-    requires count { (1 ≤ vec_len readers) × (vec_len readers ≤ 32) }
+    requires count { IsReaderCount (vec_len readers) }
     requires asks { AreAsksOf pool.now.plan lo asks.now }
-    requires workers { (1 ≤ workers) × (workers ≤ 64) }
+    requires workers { IsWorkerCount workers }
     ensures lists { IfOk result (λ v. AreLists pool.now.plan asks.now readers.items v.items) }
     ensures taken { OnOk result (AdvancesBy engine.old plan.now.stars engine.new) }
     ensures cut_off { IsCutOff engine.old plan.now.stars engine.new }
@@ -141,9 +143,11 @@ fn run_beside<R: Threads + Wait + Sync, G: Gate>(
     let (lists, published) = join_mut(
         rt,
         &mut || -> Result<Vec<Result<Vec<Answer>, Memory>>, Memory>
-            requires readers { IsSomeAnd waiting (λ r. All (λ r. IsReaderOf pool.now r.reader) r.items × (1 ≤ vec_len r) × (vec_len r ≤ 32)) }
+            requires readers { IsSomeAnd waiting (λ r. All (λ r. IsReaderOf pool.now r.reader) r.items × (1 ≤ vec_len r)
+                × (vec_len r ≤ MOST_READERS)) }
             requires asks { AreAsksOf pool.now.plan lo asks.now }
-            ensures { IfSome waiting.entry (λ r. IfOk result (λ v. AreLists pool.entry.now.plan asks.entry.now r.items v.items)) }
+            ensures { IfSome waiting.entry
+                (λ r. IfOk result (λ v. AreLists pool.entry.now.plan asks.entry.now r.items v.items)) }
         {
             match waiting.take() {
                 Some(readers) => read(rt, alloc, pool, readers, lo, asks, stop, gate),
@@ -152,7 +156,7 @@ fn run_beside<R: Threads + Wait + Sync, G: Gate>(
         },
         &mut || -> Result<(), Memory>
             requires can { CanPublish pool.now publisher.now engine.now plan.now }
-            requires workers { (1 ≤ workers) × (workers ≤ 64) }
+            requires workers { IsWorkerCount workers }
             ensures taken { OnOk result (AdvancesBy engine.entry.now plan.entry.now.stars engine.exit.now) }
             ensures cut_off { IsCutOff engine.entry.now plan.entry.now.stars engine.exit.now }
         { publish_or_stop(rt, pool, publisher, engine, plan, workers, stop, gate) },
@@ -173,7 +177,7 @@ fn read<R: Threads + Wait + Sync, G: Gate>(
     gate: &G,
 ) -> Result<Vec<Result<Vec<Answer>, Memory>>, Memory>
     requires readers { All (λ r. IsReaderOf pool.now r.reader) readers.items }
-    requires count { (1 ≤ vec_len readers) × (vec_len readers ≤ 32) }
+    requires count { IsReaderCount (vec_len readers) }
     requires asks { AreAsksOf pool.now.plan lo asks.now }
     ensures { IfOk result (λ v. AreLists pool.now.plan asks.now readers.items v.items) }
 {
@@ -194,14 +198,16 @@ fn read_each<R: Threads + Wait + Sync, G: Gate>(
     gate: &G,
 ) -> Result<Vec<Result<Vec<Answer>, Memory>>, Memory>
     requires readers { All (λ r. IsReaderOf pool.now r.reader) readers.items }
-    requires step { (1 ≤ step) × (step ≤ 32) }
+    requires step { (1 ≤ step) × (step ≤ MOST_READERS) }
     requires asks { AreAsksOf pool.now.plan lo asks.now }
     ensures len { IfOk result (λ v. vec_len v ≡ vec_len readers) }
-    ensures each { IfOk result (λ v. (k : ℕ) (d : _) (e : _) → k < vec_len readers → IfOk (slice_index_or v.items k d) (λ a. AnswersAll pool.now.plan asks.now (slice_index_or readers.items k e).who step a.items)) }
+    ensures each { IfOk result (λ v. (k : ℕ) (d : _) (e : _) → k < vec_len readers
+        → IfOk (slice_index_or v.items k d)
+        (λ a. AnswersAll pool.now.plan asks.now (slice_index_or readers.items k e).who step a.items)) }
 {
     let run = |reader: BlockReader| -> Result<Vec<Answer>, Memory>
         requires reader { IsReaderOf pool.now reader.reader }
-        requires step { (1 ≤ step) × (step ≤ 32) }
+        requires step { (1 ≤ step) × (step ≤ MOST_READERS) }
         requires asks { AreAsksOf pool.now.plan lo asks.now }
         ensures { IfOk result (λ all. AnswersAll pool.entry.now.plan asks.entry.now reader.who step all.items) }
     { answer_all(rt, alloc, pool, reader, step, lo, asks, stop, gate) };

@@ -15,9 +15,12 @@ pub(crate) fn in_order(
     count: usize,
 ) -> Result<Vec<Answer>, Memory>
     requires some { 0 < vec_len lists }
-    requires long { (i : ℕ) (d : _) → i < count → i / vec_len lists < vec_len (slice_index_or lists.items (i % vec_len lists) d) }
+    requires long { (i : ℕ) (d : _) → i < count
+        → i / vec_len lists < vec_len (slice_index_or lists.items (i % vec_len lists) d) }
     ensures len { IfOk result (λ v. vec_len v ≡ count) }
-    ensures each { IfOk result (λ v. (i : ℕ) (d : _) (e : Answer) → i < count → slice_index_or v.items i e ≡ slice_index_or (slice_index_or lists.items (i % vec_len lists) d).items (i / vec_len lists) e) }
+    ensures each { IfOk result (λ v. (i : ℕ) (d : _) (e : Answer) → i < count
+        → slice_index_or v.items i e
+        ≡ slice_index_or (slice_index_or lists.items (i % vec_len lists) d).items (i / vec_len lists) e) }
 {
     let readers = lists.len();
     let mut all = Vec::with_capacity(alloc, count).map_err(|_| Memory)?;
@@ -34,8 +37,11 @@ fn take_one(alloc: Global, lists: &mut [Vec<Answer>], reader: usize, place: usiz
     requires place { (d : _) → place < vec_len (slice_index_or lists.old reader d) }
     ensures answer { (d : _) (e : Answer) → result ≡ slice_index_or (slice_index_or lists.old reader d).items place e }
     ensures len { length lists.new ≡ length lists.old }
-    ensures lens { (q : ℕ) (d : _) → q < length lists.old → vec_len (slice_index_or lists.new q d) ≡ vec_len (slice_index_or lists.old q d) }
-    ensures rest { (q j : ℕ) (d : _) (e : Answer) → q < length lists.old → (q ≡ reader → j ≡ place → ⊥) → slice_index_or (slice_index_or lists.new q d).items j e ≡ slice_index_or (slice_index_or lists.old q d).items j e }
+    ensures lens { (q : ℕ) (d : _) → q < length lists.old
+        → vec_len (slice_index_or lists.new q d) ≡ vec_len (slice_index_or lists.old q d) }
+    ensures rest { (q j : ℕ) (d : _) (e : Answer) → q < length lists.old → (q ≡ reader → j ≡ place → ⊥)
+        → slice_index_or (slice_index_or lists.new q d).items j e
+        ≡ slice_index_or (slice_index_or lists.old q d).items j e }
 {
     take_from(alloc, &mut lists[reader], place)
 }

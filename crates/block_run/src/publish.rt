@@ -1,6 +1,7 @@
 //! The publisher of a block.
 
 ghost use Rattle.std.specs.Prelude.{◌≡◌, ◌+◌, ◌≤◌, OnOk};
+ghost use Rattle.apsp_model.specs.Limits.{IsWorkerCount};
 ghost use Rattle.version_pool.specs.Pooled.{IsPublisherOf};
 ghost use Rattle.block_run.specs.Run.{AdvancesBy, IsCutOff};
 ghost use Rattle.block_run.specs.Publishing.{CanPublish, IsNextOf};
@@ -46,7 +47,7 @@ pub(crate) fn publish_all<R: Threads + Wait + Sync, G: Gate>(
     gate: &G,
 ) -> Result<(), Memory>
     requires can { CanPublish pool.now publisher.old engine.old plan.now }
-    requires workers { (1 ≤ workers) × (workers ≤ 64) }
+    requires workers { IsWorkerCount workers }
     ensures taken { OnOk result (AdvancesBy engine.old plan.now.stars engine.new) }
     ensures cut_off { IsCutOff engine.old plan.now.stars engine.new }
 {
@@ -74,7 +75,7 @@ pub(crate) fn publish_or_stop<R: Threads + Wait + Sync, G: Gate>(
     gate: &G,
 ) -> Result<(), Memory>
     requires can { CanPublish pool.now publisher.old engine.old plan.now }
-    requires workers { (1 ≤ workers) × (workers ≤ 64) }
+    requires workers { IsWorkerCount workers }
     ensures taken { OnOk result (AdvancesBy engine.old plan.now.stars engine.new) }
     ensures cut_off { IsCutOff engine.old plan.now.stars engine.new }
 {

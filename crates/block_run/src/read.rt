@@ -1,6 +1,7 @@
 //! The readers of a block.
 
 ghost use Rattle.std.specs.Prelude.{◌≡◌, ◌≤◌, ◌<◌, IfOk, IfSome, vec_len, map};
+ghost use Rattle.apsp_model.specs.declared.TheConstants.{MOST_READERS};
 ghost use Rattle.version_face.specs.Entries.{WalkIs};
 ghost use Rattle.version_pool.specs.Pooled.{IsReaderOf};
 ghost use Rattle.block_run.specs.Answers.{IsAskOf};
@@ -28,7 +29,7 @@ pub(crate) struct BlockReader {
 
 /// The readers with their numbers, from 0 on.
 pub(crate) fn numbered(alloc: Global, readers: Vec<Reader>) -> Result<Vec<BlockReader>, Memory>
-    requires { vec_len readers ≤ 32 }
+    requires { vec_len readers ≤ MOST_READERS }
     ensures numbered { IfOk result (λ all. AreNumbered all.items) }
     ensures same { IfOk result (λ all. map (λ r. r.reader) all.items ≡ readers.items) }
 {
@@ -148,7 +149,7 @@ pub(crate) fn answer_all<R: Wait, G: Gate>(
 ) -> Result<Vec<Answer>, Memory>
     requires reader { IsReaderOf pool.now reader.reader }
     requires asks { AreAsksOf pool.now.plan lo asks.now }
-    requires step { (1 ≤ step) × (step ≤ 32) }
+    requires step { (1 ≤ step) × (step ≤ MOST_READERS) }
     ensures { IfOk result (λ all. AnswersAll pool.now.plan asks.now reader.who step all.items) }
 {
     let mut answers = Vec::new(alloc);

@@ -1,6 +1,7 @@
 //! Blocks over a network of three vertices.
 
 ghost use Rattle.std.specs.Prelude.{◌≡◌, ◌<◌, ◌≤◌, All, IfOk, length};
+ghost use Rattle.apsp_model.specs.Limits.{IsReaderCount};
 ghost use Rattle.block_run.specs.declared.asks.Ask.{Ask as Question};
 
 use super::*;
@@ -74,7 +75,7 @@ fn run_two<R: Threads + Wait + Sync, G: Gate>(
     gate: &G,
 ) -> Result<BlockAnswers, Fail>
     requires asks { All (λ (a : Question). (a.x < 3) × (a.y < 3) × (a.since ≤ 2)) asks.now }
-    requires readers { (1 ≤ readers) × (readers ≤ 32) }
+    requires readers { IsReaderCount readers }
 {
     let mut engine = Engine::new(alloc, 3, false)?;
     let plan = plan_of_two(alloc, engine.graph())?;

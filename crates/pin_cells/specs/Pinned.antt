@@ -11,7 +11,8 @@ pub record Cells : Type 0 where
 
 abbrev pub cells_code : Coded Cells
 cells_code =
-    code_by (Plan × ℕ) (coded× plan_code coded_ℕ) (λ c. (c.plan, c.slots)) (λ t. record { plan = t.0; slots = t.1 }) (λ _. refl)
+    code_by (Plan × ℕ) (coded× plan_code coded_ℕ) (λ c. (c.plan, c.slots)) (λ t. record { plan = t.0; slots = t.1 })
+    (λ _. refl)
 
 -- a slot, and the version that stands there
 pub record Pin : Type 0 where
@@ -20,7 +21,8 @@ pub record Pin : Type 0 where
 
 abbrev pub pin_code : Coded Pin
 pin_code =
-    code_by (ℕ × Seen) (coded× coded_ℕ seen_code) (λ p. (p.slot, p.version)) (λ t. record { slot = t.0; version = t.1 }) (λ _. refl)
+    code_by (ℕ × Seen) (coded× coded_ℕ seen_code) (λ p. (p.slot, p.version)) (λ t. record { slot = t.0; version = t.1 })
+    (λ _. refl)
 
 -- a slot, and the plan whose versions it takes
 pub record Claimed : Type 0 where
@@ -29,7 +31,8 @@ pub record Claimed : Type 0 where
 
 abbrev pub claimed_code : Coded Claimed
 claimed_code =
-    code_by (Plan × ℕ) (coded× plan_code coded_ℕ) (λ c. (c.plan, c.slot)) (λ t. record { plan = t.0; slot = t.1 }) (λ _. refl)
+    code_by (Plan × ℕ) (coded× plan_code coded_ℕ) (λ c. (c.plan, c.slot)) (λ t. record { plan = t.0; slot = t.1 })
+    (λ _. refl)
 
 -- the plan's version of its own number
 abbrev pub IsOfPlan : Plan → Seen → Type 0

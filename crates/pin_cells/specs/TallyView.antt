@@ -1,4 +1,4 @@
--- What contracts see of the fields of a tally.
+-- What contracts see of the fields of a tally. No public clause cites this module.
 use Rattle.std.specs.Prelude.{Option, Some, None}
 use Rattle.pin_cells.specs.Tallied.{Ask, Tally}
 use Rattle.pin_cells.specs.declared.tally.LastAsk.{LastAsk}

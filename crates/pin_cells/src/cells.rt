@@ -1,6 +1,8 @@
 //! The slots.
 
 ghost use Rattle.std.specs.Prelude.{◌≡◌, ◌<◌, ◌≤◌, All, IfSome, IfNone, IfOk, vec_len};
+ghost use Rattle.apsp_model.specs.Limits.{IsSlotCount};
+ghost use Rattle.apsp_model.specs.declared.TheConstants.{MOST_SLOTS};
 ghost use Rattle.pin_cells.specs.Tallied.{LosesAt, MissesPin};
 ghost use Rattle.pin_cells.specs.Pinned.{IsOfPlan, IsPinAt};
 
@@ -11,9 +13,6 @@ use graph_store::Plan;
 use std::alloc::{AllocError, Global};
 use std::marker::Model;
 use version_face::Version;
-
-/// The most slots that there are.
-pub const MOST_SLOTS: u32 = 64;
 
 /// A version, of which the slot keeps that it is the plan's version of its own number.
 #[derive(Drop)]
@@ -38,6 +37,7 @@ pub struct Cells<'p> {
 
 impl<'p> Model for Cells<'p> {
     ghost use Rattle.std.specs.Prelude.{◌≡◌, ◌≤◌, All, vec_len};
+    ghost use Rattle.apsp_model.specs.declared.TheConstants.{MOST_SLOTS};
     ghost use Rattle.pin_cells.specs.Pinned.{Cells as Cells_seen, cells_code};
 
     ghost Value = { Cells_seen };
@@ -46,7 +46,7 @@ impl<'p> Model for Cells<'p> {
 
     ghost view = { λ c. record { plan = c.plan.now; slots = vec_len c.slots } };
 
-    ghost invariant = { λ c. (vec_len c.slots ≤ 64) × All (λ tag. tag ≡ c.plan.now) c.slots.items };
+    ghost invariant = { λ c. (vec_len c.slots ≤ MOST_SLOTS) × All (λ tag. tag ≡ c.plan.now) c.slots.items };
 }
 
 /// The right to write a slot, which nobody reads meanwhile. It has to be spent by `put`.
@@ -76,8 +76,7 @@ impl<'p> Cells<'p> {
         plan: &'p Plan,
         first: &Version,
     ) -> Result<Cells<'p>, Memory>
-        requires some { 2 ≤ slots }
-        requires most { slots ≤ MOST_SLOTS }
+        requires slots { IsSlotCount slots }
         requires first { IsOfPlan plan.now first.now }
         requires lo { first.now.number ≡ plan.now.lo }
         ensures { IfOk result (λ c. c ≡ record { plan = plan.entry.now; slots = slots }) }

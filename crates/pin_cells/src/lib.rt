@@ -6,7 +6,7 @@
 mod cells;
 mod tally;
 
-pub use cells::{Cells, Claimed, MOST_SLOTS};
+pub use cells::{Cells, Claimed};
 pub use tally::{Pin, Tally};
 
 #[cfg(test)]

@@ -1,5 +1,5 @@
 -- A granted pin: its number was announced by then, and is neither below what its reader had seen nor
--- above what it sees from then on.
+-- above what it sees from then on. For `law_pool`.
 use Rattle.std.proofs.Common.{◌≡◌, ℕ, zero, suc, ◌+◌, ◌<◌, ◌≤◌, true, List, [], ◌∷◌, ◌++◌, length, get_or, Some, refl, ap, sym, ◌∙◌, subst, arith, length-set}
 use mathlib.Core.Logic.{dite}
 use native.Mathlib.Decide.{ℕ_discrete}

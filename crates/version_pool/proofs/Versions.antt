@@ -1,4 +1,5 @@
--- The versions of a plan: how many vertices they have, and the one behind each.
+-- The versions of a plan, how many vertices they have, and the one behind each: for `Pool::new`, `Publisher::publish` and
+-- the tests.
 use Rattle.std.specs.Prelude.{◌≡◌, ℕ, zero, suc, ◌+◌, ◌-◌, ◌<◌, List, [], ◌∷◌, take, Some, slice_get, refl}
 use Rattle.std.proofs.Common.{sym, ◌∙◌, ap, subst, arith}
 use Rattle.std.proofs.lemmas.Option.{get_or_from_slice_get, slice_get_within}

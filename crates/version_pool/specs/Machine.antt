@@ -82,11 +82,13 @@ next_mark s slot = record { number = s.announced.number + 1; slot = slot }
 pub data Steps : State → Event → State → Type 0 where
   loads : (s : State) (r : ℕ) → r < length s.seen
       → Steps s (load r) (record s { seen = slice_set s.seen r s.announced })
-  pins : (s : State) (r : ℕ) (m : Mark) → slice_get s.seen r ≡ Some m → s.claimed ≢ Some m.slot → m.slot < length s.contents
+  pins : (s : State) (r : ℕ) (m : Mark) → slice_get s.seen r ≡ Some m → s.claimed ≢ Some m.slot
+      → m.slot < length s.contents
       → Steps s (pin r) (record s { pins = s.pins ++ pin_of s r m ∷ [] })
   unpins : (s : State) (i : ℕ) → i < length s.pins
       → Steps s (unpin i) (record s { pins = without_at s.pins i })
-  claims : (s : State) (slot : ℕ) → slot < length s.contents → s.claimed ≡ None → s.ready ≡ None → IsUnpinned s slot → slot ≢ s.announced.slot
+  claims : (s : State) (slot : ℕ) → slot < length s.contents → s.claimed ≡ None → s.ready ≡ None → IsUnpinned s slot
+      → slot ≢ s.announced.slot
       → Steps s (claim slot) (record s { claimed = Some slot })
   puts : (s : State) (slot : ℕ) → s.claimed ≡ Some slot
       → Steps s put (record s {

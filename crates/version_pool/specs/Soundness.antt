@@ -24,7 +24,8 @@ pub record IsSound (s : State) : Type 0 where
   pub announced : slice_index s.contents s.announced.slot ≡ s.announced.number
   pub ready : (m : Mark) → s.ready ≡ Some m → IsNext s m
   pub contents : (k : ℕ) → k < length s.contents
-      → (slice_index s.contents k ≤ s.announced.number) ⊎ (s.ready ≡ Some (record { number = slice_index s.contents k; slot = k }))
+      → (slice_index s.contents k ≤ s.announced.number)
+      ⊎ (s.ready ≡ Some (record { number = slice_index s.contents k; slot = k }))
   pub seen : (r : ℕ) (m : Mark) → slice_get s.seen r ≡ Some m → m.number ≤ s.announced.number
   pub notes : (i : ℕ) (m : Mark) → slice_get s.notes i ≡ Some m → m.number ≤ s.announced.number
 
@@ -37,7 +38,8 @@ pub record Rises (s t : State) : Type 0 where
 -- the number was announced at some point of the events that lead from a to s
 abbrev pub WasAnnounced : State → List Event → ℕ → Type 0
 WasAnnounced a events n =
-    (first : List Event) × (rest : List Event) × (t : State) × (events ≡ first ++ rest) × Runs a first t × (t.announced.number ≡ n)
+    (first : List Event) × (rest : List Event) × (t : State) × (events ≡ first ++ rest) × Runs a first t
+    × (t.announced.number ≡ n)
 
 -- Of a pin with the number n that the reader r was granted in s, where the events lead from a to s
 -- and u comes later: n was announced by then, r had seen no greater number by then, and has seen n.

@@ -10,7 +10,8 @@ ghost use Rattle.version_pool.specs.Soundness.{IsSound, IsGranted, Rises};
 /// do not fall. A granted pin has a number that was announced by then, that is no less than all
 /// that its reader had seen, and no more than what the reader sees from then on.
 pub fn law_pool()
-    ensures sound { (lo slots readers : ℕ) (events : List Event) (s : State) → 2 ≤ slots → Runs (start lo slots readers) events s
+    ensures sound { (lo slots readers : ℕ) (events : List Event) (s : State) → 2 ≤ slots
+        → Runs (start lo slots readers) events s
         → IsSound s }
     ensures rises { (lo slots readers : ℕ) (first later : List Event) (s t : State) → 2 ≤ slots
         → Runs (start lo slots readers) first s → Runs s later t → Rises s t }

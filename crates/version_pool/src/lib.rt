@@ -8,7 +8,7 @@ mod publisher;
 mod reader;
 mod word;
 
-pub use pool::{MOST_READERS, Pool, PoolParts};
+pub use pool::{Pool, PoolParts};
 pub use publisher::{AllHeld, Note, Publisher};
 pub use reader::{Held, Missed, Reader};
 pub use word::Mark;

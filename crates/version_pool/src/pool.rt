@@ -1,6 +1,7 @@
 //! The pool, and how it is made.
 
 ghost use Rattle.std.specs.Prelude.{◌≡◌, ◌≤◌, [], ◌+◌, ◌^◌, All, IfOk, vec_len};
+ghost use Rattle.apsp_model.specs.Limits.{IsReaderCount, IsSlotCount};
 ghost use Rattle.pin_cells.specs.Pinned.{IsOfPlan};
 ghost use Rattle.version_pool.specs.Marks.{mark, view};
 ghost use Rattle.version_pool.specs.Pooled.{IsPublisherOf, IsReaderOf, IsReaderAt};
@@ -11,13 +12,10 @@ use crate::reader::Reader;
 use crate::word::{Board, Mark, Place, Word, board, enter};
 use apsp_model::Memory;
 use graph_store::Plan;
-use pin_cells::{Cells, MOST_SLOTS};
+use pin_cells::Cells;
 use std::alloc::{AllocError, Global};
 use std::marker::Model;
 use version_face::Version;
-
-/// The most readers that a pool has.
-pub const MOST_READERS: u32 = 32;
 
 /// The slots, and the word that says which of them is announced. It borrows the plan whose versions
 /// stand in the slots.
@@ -29,6 +27,7 @@ pub struct Pool<'p> {
 
 impl<'p> Model for Pool<'p> {
     ghost use Rattle.std.specs.Prelude.{◌≡◌, ◌^◌, ◌≤◌};
+    ghost use Rattle.apsp_model.specs.declared.TheConstants.{MOST_UPDATES};
     ghost use Rattle.graph_store.specs.Plan.{hi_of};
     ghost use Rattle.version_pool.specs.Pooled.{Pool as Pool_seen, pool_code};
 
@@ -38,7 +37,7 @@ impl<'p> Model for Pool<'p> {
 
     ghost view = { λ p. record { id = p.board.shared.table_id; plan = p.cells.plan; slots = p.cells.slots } };
 
-    ghost invariant = { λ p. (p.board.shared.table_id.words ≡ 1) × (hi_of p.cells.plan ≤ 2 ^ 40) };
+    ghost invariant = { λ p. (p.board.shared.table_id.words ≡ 1) × (hi_of p.cells.plan ≤ MOST_UPDATES) };
 }
 
 /// A new pool with its one publisher and its readers. Each of these is used with this pool alone.
@@ -59,9 +58,8 @@ impl<'p> Pool<'p> {
         plan: &'p Plan,
         first: &Version,
     ) -> Result<PoolParts<'p>, Memory>
-        requires some { 2 ≤ slots }
-        requires most { slots ≤ MOST_SLOTS }
-        requires readers { (1 ≤ readers) × (readers ≤ MOST_READERS) }
+        requires slots { IsSlotCount slots }
+        requires readers { IsReaderCount readers }
         requires first { IsOfPlan plan.now first.now }
         requires lo { first.now.number ≡ plan.now.lo }
         ensures plan { IfOk result (λ p. p.pool.plan ≡ plan.entry.now) }

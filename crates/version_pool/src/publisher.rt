@@ -27,6 +27,7 @@ pub struct Publisher {
 
 impl Model for Publisher {
     ghost use Rattle.std.specs.Prelude.{◌≡◌, ◌≢◌, ◌<◌, ◌≤◌, [], None};
+    ghost use Rattle.apsp_model.specs.declared.TheConstants.{MOST_SLOTS};
     ghost use Rattle.version_pool.specs.Pooled.{Publisher as Publisher_seen, spare_vertices};
     ghost use Rattle.version_pool.specs.declared.word.Role.TheVariants.{Publisher as publishing};
 
@@ -40,7 +41,7 @@ impl Model for Publisher {
     } };
 
     ghost invariant = { λ p. (p.seat.me.1 ≡ []) × (p.seat.me.0.role ≡ publishing) × (p.seat.me.0.mark ≡ p.mark)
-        × (p.mark.slot < p.seat.me.0.slots) × (p.seat.me.0.slots ≤ 64) × (p.spare ≢ None) };
+        × (p.mark.slot < p.seat.me.0.slots) × (p.seat.me.0.slots ≤ MOST_SLOTS) × (p.spare ≢ None) };
 }
 
 /// Tells a reader of which number the publisher knew that it was announced. A reader that learns it
@@ -90,7 +91,8 @@ impl Publisher {
         requires of_plan { IsVersionOf pool.now.plan (A.stamp from.now) (A.graph from.now) }
         ensures publisher { IsPublisherOf pool.now self.new }
         ensures announced { IfOk result (λ m. IsNext pool.now.slots self.old.mark m × (self.new.mark ≡ m)) }
-        ensures above { IfOk result (λ m. LosesFrom tally.old tally.new pool.now.slots self.old.mark.slot (m.slot + 1)) }
+        ensures above { IfOk result
+            (λ m. LosesFrom tally.old tally.new pool.now.slots self.old.mark.slot (m.slot + 1)) }
         ensures unchanged { OnErr result (self.new ≡ self.old) }
         ensures all_held { OnErr result (LosesFrom tally.old tally.new pool.now.slots self.old.mark.slot 0) }
     {

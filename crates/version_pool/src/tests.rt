@@ -1,12 +1,16 @@
-ghost use Rattle.std.specs.Prelude.{◌≡◌, ◌≤◌, All, IfOk, IfSome};
+//! Versions of two vertices, published one after another while readers hold them.
+
+ghost use Rattle.std.specs.Prelude.{◌≡◌, All, IfOk, IfSome};
 ghost use Rattle.apsp_model.specs.Graph.{no_edges};
 ghost use Rattle.graph_store.specs.Plan.{IsVersionOf};
 ghost use Rattle.version_pool.specs.Pooled.{IsPublisherOf, IsReaderOf};
 
 use super::*;
+use apsp_model::{MOST_READERS, MOST_SLOTS};
 use graph_store::{Graph, Plan, Star};
 use pin_cells::Tally;
 use std::alloc::Global;
+use std::marker::Model;
 use std::test::Fail;
 use std::thread::{Threads, join};
 use version_face::{Answers, Entry, NO_DISTANCE, Version};
@@ -91,60 +95,148 @@ fn updates(alloc: Global) -> Result<Plan, Fail>
     Ok(plan)
 }
 
-/// Publishes the next number of the plan, if there is one and a slot for it.
-fn publish_next(
-    publisher: &mut Publisher,
-    pool: &Pool<'_>,
-    plan: &Plan,
-    present: &mut Pair,
-    tally: &mut Tally,
-) -> Option<Mark>
-    requires publisher { IsPublisherOf pool.now publisher.old }
-    requires plan { pool.now.plan ≡ plan.now }
-    requires two { plan.now.start.vertices ≡ 2 }
-    requires of_plan { IsVersionOf plan.now present.old.number present.old.graph }
-    ensures publisher { IsPublisherOf pool.now publisher.new }
-    ensures of_plan { IsVersionOf plan.now present.new.number present.new.graph }
-{
-    let announced = publisher.announced();
-    present.advance(plan, announced);
-    if announced.checked_add(1) != Some(present.number) {
-        return None;
-    }
-    publisher.publish(pool, present, tally).ok()
+/// Who publishes the versions of a plan in a pool. Contracts see the pool.
+#[derive(Drop)]
+struct Writer<'a> {
+    pool: &'a Pool<'a>,
+    plan: &'a Plan,
+    publisher: Publisher,
+    present: Pair,
+    tally: Tally,
 }
 
-/// Publishes as long as that goes, and gives the number that is announced then.
-fn publish_all(
-    publisher: &mut Publisher,
-    pool: &Pool<'_>,
-    plan: &Plan,
-    present: &mut Pair,
-    tally: &mut Tally,
-) -> u64
-    requires publisher { IsPublisherOf pool.now publisher.old }
-    requires plan { pool.now.plan ≡ plan.now }
-    requires two { plan.now.start.vertices ≡ 2 }
-    requires of_plan { IsVersionOf plan.now present.old.number present.old.graph }
-    ensures publisher { IsPublisherOf pool.now publisher.new }
-    ensures of_plan { IsVersionOf plan.now present.new.number present.new.graph }
-{
-    for _ in 0..=LAST {
-        if publish_next(publisher, pool, plan, present, tally).is_none() {
-            break;
+impl<'a> Model for Writer<'a> {
+    ghost use Rattle.std.specs.Prelude.{◌≡◌};
+    ghost use Rattle.graph_store.specs.Plan.{IsVersionOf};
+    ghost use Rattle.version_pool.specs.Pooled.{Pool as Pool_seen, pool_code, IsPublisherOf};
+
+    ghost Value = { Pool_seen };
+
+    ghost coded = { pool_code };
+
+    ghost view = { λ w. w.pool.now };
+
+    ghost invariant = { λ w. IsPublisherOf w.pool.now w.publisher × (w.pool.now.plan ≡ w.plan.now)
+        × (w.plan.now.start.vertices ≡ 2) × IsVersionOf w.plan.now w.present.number w.present.graph };
+}
+
+impl<'a> Writer<'a> {
+    fn new(
+        alloc: Global,
+        pool: &'a Pool<'a>,
+        plan: &'a Plan,
+        publisher: Publisher,
+    ) -> Result<Writer<'a>, Fail>
+        requires publisher { IsPublisherOf pool.now publisher }
+        requires plan { pool.now.plan ≡ plan.now }
+        requires lo { plan.now.lo ≡ 0 }
+        requires start { plan.now.start ≡ no_edges 2 }
+        ensures { IfOk result (λ w. w ≡ pool.entry.now) }
+    {
+        let present = Pair {
+            graph: Graph::new(alloc, 2)?,
+            number: 0,
+        };
+        Ok(Writer {
+            pool,
+            plan,
+            publisher,
+            present,
+            tally: Tally::new(),
+        })
+    }
+
+    /// Publishes the next number of the plan, if there is one and a slot for it.
+    fn publish(&mut self) -> Option<Mark>
+        ensures { self.new ≡ self.old }
+    {
+        let announced = self.publisher.announced();
+        self.present.advance(self.plan, announced);
+        if announced.checked_add(1) != Some(self.present.number) {
+            return None;
+        }
+        self.publisher
+            .publish(self.pool, &self.present, &mut self.tally)
+            .ok()
+    }
+
+    /// Publishes as long as that goes, and gives the number that is announced then.
+    fn publish_all(&mut self) -> u64
+        ensures { self.new ≡ self.old }
+    {
+        for _ in 0..=LAST {
+            if self.publish().is_none() {
+                break;
+            }
+        }
+        self.publisher.announced()
+    }
+
+    /// The mark of one publication, and the turns that were lost by then.
+    fn published(&mut self) -> (Option<Mark>, u64)
+        ensures { self.new ≡ self.old }
+    {
+        let mark = self.publish();
+        (mark, self.tally.lost())
+    }
+}
+
+/// Who holds versions of a pool. Contracts see the pool.
+#[derive(Drop)]
+struct Holder<'a> {
+    pool: &'a Pool<'a>,
+    reader: Reader,
+    tally: Tally,
+}
+
+impl<'a> Model for Holder<'a> {
+    ghost use Rattle.version_pool.specs.Pooled.{Pool as Pool_seen, pool_code, IsReaderOf};
+
+    ghost Value = { Pool_seen };
+
+    ghost coded = { pool_code };
+
+    ghost view = { λ h. h.pool.now };
+
+    ghost invariant = { λ h. IsReaderOf h.pool.now h.reader };
+}
+
+impl<'a> Holder<'a> {
+    fn new(pool: &'a Pool<'a>, reader: Reader) -> Holder<'a>
+        requires { IsReaderOf pool.now reader }
+        ensures { result ≡ pool.entry.now }
+    {
+        Holder {
+            pool,
+            reader,
+            tally: Tally::new(),
         }
     }
-    publisher.announced()
-}
 
-/// Takes a reader of the pool.
-fn take_reader(readers: &mut Vec<Reader>, pool: &Pool<'_>) -> Option<Reader>
-    requires { All (IsReaderOf pool.now) readers.old.items }
-    ensures left { All (IsReaderOf pool.now) readers.new.items }
-    ensures taken { IfSome result (IsReaderOf pool.now) }
-{
-    let _ = pool;
-    readers.pop()
+    /// One try.
+    fn hold(&mut self) -> Option<Held<'a>>
+        ensures { self.new ≡ self.old }
+    {
+        self.reader.try_hold(self.pool, &mut self.tally).ok()
+    }
+
+    /// What one try shows.
+    fn show(&mut self) -> Option<(u64, u64)>
+        ensures { self.new ≡ self.old }
+    {
+        let held = self.hold()?;
+        let shows = shown(held.version());
+        held.release();
+        Some(shows)
+    }
+
+    /// Learns what is announced.
+    fn learn(&mut self, from: &mut Writer<'a>)
+        requires { self.old ≡ from.old }
+    {
+        let note = from.publisher.note(from.pool);
+        self.reader.learn(self.pool, note);
+    }
 }
 
 /// The number of a version, and the distance from 0 to 1 there.
@@ -157,15 +249,35 @@ fn shown(version: &Version) -> (u64, u64) {
     (version.number(), dist)
 }
 
-/// What one hold shows, if there is one.
-fn shown_at_once(reader: &mut Reader, pool: &Pool<'_>, tally: &mut Tally) -> Option<(u64, u64)>
-    requires { IsReaderOf pool.now reader.old }
-    ensures { IsReaderOf pool.now reader.new }
+/// A holder for the last of these readers.
+fn take_holder<'a>(pool: &'a Pool<'a>, readers: &mut Vec<Reader>) -> Option<Holder<'a>>
+    requires { All (IsReaderOf pool.now) readers.old.items }
+    ensures left { All (IsReaderOf pool.entry.now) readers.new.items }
+    ensures pool { IfSome result (λ h. h ≡ pool.entry.now) }
 {
-    let held = reader.try_hold(pool, tally).ok()?;
-    let shows = shown(held.version());
-    held.release();
-    Some(shows)
+    let reader = readers.pop()?;
+    Some(Holder::new(pool, reader))
+}
+
+/// A pool over this plan, in which the first number is announced.
+fn pool_of<'p>(
+    alloc: Global,
+    slots: u32,
+    readers: u32,
+    plan: &'p Plan,
+) -> Result<PoolParts<'p>, Fail>
+    requires lo { plan.now.lo ≡ 0 }
+    requires start { plan.now.start ≡ no_edges 2 }
+    ensures plan { IfOk result (λ p. p.pool.plan ≡ plan.entry.now) }
+    ensures publisher { IfOk result (λ p. IsPublisherOf p.pool p.publisher) }
+    ensures own { IfOk result (λ p. All (IsReaderOf p.pool) p.readers.items) }
+{
+    if slots < 2 || slots > MOST_SLOTS || readers < 1 || readers > MOST_READERS {
+        return Err("no such pool".into());
+    }
+    let first = Version::new(alloc, 2)?;
+    let parts = Pool::new(alloc, slots, readers, plan, &first)?;
+    Ok(parts)
 }
 
 /// What is announced while one reader holds the first number, with the turns that were lost by
@@ -179,56 +291,58 @@ struct Meanwhile {
     behind: Option<(u64, u64)>,
 }
 
-fn hold_the_first(alloc: Global, slots: u32) -> Result<Meanwhile, Fail>
-    requires some { 2 ≤ slots }
-    requires most { slots ≤ 64 }
+fn hold_the_first<'a>(
+    writer: &mut Writer<'a>,
+    early: &mut Holder<'a>,
+    late: &mut Holder<'a>,
+) -> Option<Meanwhile>
+    requires { late.old ≡ writer.old }
 {
-    let plan = updates(alloc)?;
-    let first = Version::new(alloc, 2)?;
-    let PoolParts {
-        pool,
-        mut publisher,
-        mut readers,
-    } = Pool::new(alloc, slots, 2, &plan, &first)?;
-    let (Some(mut late), Some(mut early)) = (
-        take_reader(&mut readers, &pool),
-        take_reader(&mut readers, &pool),
-    ) else {
-        return Err("no reader".into());
-    };
-    let mut present = Pair {
-        graph: Graph::new(alloc, 2)?,
-        number: 0,
-    };
-    let mut tally = Tally::new();
-    let Ok(hold) = early.try_hold(&pool, &mut tally) else {
-        return Err("missed".into());
-    };
-    let announced = publish_all(&mut publisher, &pool, &plan, &mut present, &mut tally);
+    let hold = early.hold()?;
+    let announced = writer.publish_all();
     let held = shown(hold.version());
     hold.release();
-    let lost = tally.lost();
-    publish_next(&mut publisher, &pool, &plan, &mut present, &mut tally);
-    late.learn(&pool, publisher.note(&pool));
-    Ok(Meanwhile {
+    let (_, lost) = writer.published();
+    late.learn(writer);
+    Some(Meanwhile {
         announced,
         lost,
         held,
-        behind: shown_at_once(&mut late, &pool, &mut tally),
+        behind: late.show(),
     })
+}
+
+fn with_the_first_held(alloc: Global, slots: u32) -> Result<Option<Meanwhile>, Fail> {
+    let plan = updates(alloc)?;
+    let PoolParts {
+        pool,
+        publisher,
+        mut readers,
+    } = pool_of(alloc, slots, 2, &plan)?;
+    let mut writer = Writer::new(alloc, &pool, &plan, publisher)?;
+    let Some(mut late) = take_holder(&pool, &mut readers) else {
+        return Ok(None);
+    };
+    let Some(mut early) = take_holder(&pool, &mut readers) else {
+        return Ok(None);
+    };
+    Ok(hold_the_first(&mut writer, &mut early, &mut late))
 }
 
 #[test]
 fn a_held_version_stays_while_others_are_published(rt: HostRuntime) -> Result<(), Fail> {
     for (slots, announced, lost, behind) in [(2, 1, 1, 2), (3, 10, 0, 10), (64, 10, 0, 10)] {
-        let seen = hold_the_first(rt.alloc(), slots)?;
         let wanted = Meanwhile {
             announced,
             lost,
             held: (0, NO_DISTANCE),
             behind: Some((behind, behind)),
         };
-        assert_eq!(rt; seen, wanted, "{slots} slots");
+        assert_eq!(rt;
+            with_the_first_held(rt.alloc(), slots)?,
+            Some(wanted),
+            "{slots} slots"
+        );
     }
     Ok(())
 }
@@ -245,45 +359,25 @@ struct Occupied {
     held: (u64, u64),
 }
 
-fn occupy(alloc: Global) -> Result<Occupied, Fail> {
-    let plan = updates(alloc)?;
-    let first = Version::new(alloc, 2)?;
-    let PoolParts {
-        pool,
-        mut publisher,
-        mut readers,
-    } = Pool::new(alloc, 3, 2, &plan, &first)?;
-    let (Some(mut late), Some(mut early)) = (
-        take_reader(&mut readers, &pool),
-        take_reader(&mut readers, &pool),
-    ) else {
-        return Err("no reader".into());
-    };
-    let mut present = Pair {
-        graph: Graph::new(alloc, 2)?,
-        number: 0,
-    };
-    let mut tally = Tally::new();
-    let Ok(oldest) = early.try_hold(&pool, &mut tally) else {
-        return Err("missed".into());
-    };
-    let mark = publish_next(&mut publisher, &pool, &plan, &mut present, &mut tally);
-    let first = (mark, tally.lost());
-    let Ok(hold) = late.try_hold(&pool, &mut tally) else {
+fn occupy<'a>(
+    writer: &mut Writer<'a>,
+    early: &mut Holder<'a>,
+    late: &mut Holder<'a>,
+) -> Option<Occupied> {
+    let oldest = early.hold()?;
+    let first = writer.published();
+    let Some(hold) = late.hold() else {
         oldest.release();
-        return Err("missed".into());
+        return None;
     };
-    let mark = publish_next(&mut publisher, &pool, &plan, &mut present, &mut tally);
-    let second = (mark, tally.lost());
-    let mark = publish_next(&mut publisher, &pool, &plan, &mut present, &mut tally);
-    let third = (mark, tally.lost());
-    let announced = publisher.announced();
+    let second = writer.published();
+    let third = writer.published();
+    let announced = writer.publisher.announced();
     oldest.release();
-    let mark = publish_next(&mut publisher, &pool, &plan, &mut present, &mut tally);
-    let fourth = (mark, tally.lost());
+    let fourth = writer.published();
     let held = shown(hold.version());
     hold.release();
-    Ok(Occupied {
+    Some(Occupied {
         first,
         second,
         third,
@@ -291,6 +385,23 @@ fn occupy(alloc: Global) -> Result<Occupied, Fail> {
         fourth,
         held,
     })
+}
+
+fn with_two_held(alloc: Global) -> Result<Option<Occupied>, Fail> {
+    let plan = updates(alloc)?;
+    let PoolParts {
+        pool,
+        publisher,
+        mut readers,
+    } = pool_of(alloc, 3, 2, &plan)?;
+    let mut writer = Writer::new(alloc, &pool, &plan, publisher)?;
+    let Some(mut late) = take_holder(&pool, &mut readers) else {
+        return Ok(None);
+    };
+    let Some(mut early) = take_holder(&pool, &mut readers) else {
+        return Ok(None);
+    };
+    Ok(occupy(&mut writer, &mut early, &mut late))
 }
 
 #[test]
@@ -303,7 +414,7 @@ fn the_highest_slot_that_nobody_holds_is_taken(rt: HostRuntime) -> Result<(), Fa
         fourth: (Some(Mark { number: 3, slot: 0 }), 3),
         held: (1, 1),
     };
-    assert_eq!(rt; occupy(rt.alloc())?, wanted);
+    assert_eq!(rt; with_two_held(rt.alloc())?, Some(wanted));
     Ok(())
 }
 
@@ -316,17 +427,14 @@ struct Holds {
 }
 
 /// Holds again and again, until it has the last number or has tried so often.
-fn hold_often(mut reader: Reader, pool: &Pool<'_>, tries: u32) -> Holds
-    requires { IsReaderOf pool.now reader }
-{
+fn hold_often(mut holder: Holder<'_>, tries: u32) -> Holds {
     let mut holds = Holds {
         count: 0,
         sound: true,
     };
     let mut last = 0;
     for _ in 0..tries {
-        let mut tally = Tally::new();
-        let Some((number, dist)) = shown_at_once(&mut reader, pool, &mut tally) else {
+        let Some((number, dist)) = holder.show() else {
             continue;
         };
         let fits = if number == 0 {
@@ -345,104 +453,83 @@ fn hold_often(mut reader: Reader, pool: &Pool<'_>, tries: u32) -> Holds
 }
 
 /// What the publisher has announced at last, and what the reader beside it held.
-fn beside<R: Threads + Sync>(
-    rt: &R,
-    pool: &Pool<'_>,
-    plan: &Plan,
-    mut publisher: Publisher,
-    mut present: Pair,
-    reader: Reader,
-) -> (u64, Holds)
-    requires publisher { IsPublisherOf pool.now publisher }
-    requires reader { IsReaderOf pool.now reader }
-    requires plan { pool.now.plan ≡ plan.now }
-    requires two { plan.now.start.vertices ≡ 2 }
-    requires of_plan { IsVersionOf plan.now present.number present.graph }
-{
+fn beside<R: Threads + Sync>(rt: &R, mut writer: Writer<'_>, holder: Holder<'_>) -> (u64, Holds) {
     join(
         rt,
-        move ||
-            requires publisher { IsPublisherOf pool.now publisher }
-            requires plan { pool.now.plan ≡ plan.now }
-            requires two { plan.now.start.vertices ≡ 2 }
-            requires of_plan { IsVersionOf plan.now present.number present.graph }
-        {
-            let mut tally = Tally::new();
-            publish_all(&mut publisher, pool, plan, &mut present, &mut tally)
-        },
-        move ||
-            requires { IsReaderOf pool.now reader }
-        { hold_often(reader, pool, 1_000_000) },
+        move || writer.publish_all(),
+        move || { hold_often(holder, 1_000_000) },
     )
 }
 
-#[test]
-fn a_reader_holds_versions_beside_the_publisher(rt: HostRuntime) -> Result<(), Fail> {
-    let alloc = rt.alloc();
+/// What was announced and held beside each other, what another reader shows behind that, and the
+/// turns that it lost.
+fn shown_behind<R: Threads + Sync>(
+    rt: &R,
+    alloc: Global,
+) -> Result<Option<(u64, Holds, Option<(u64, u64)>, u64)>, Fail> {
     let plan = updates(alloc)?;
-    let first = Version::new(alloc, 2)?;
     let PoolParts {
         pool,
         publisher,
         mut readers,
-    } = Pool::new(alloc, 3, 2, &plan, &first)?;
-    let (Some(mut late), Some(reader)) = (
-        take_reader(&mut readers, &pool),
-        take_reader(&mut readers, &pool),
-    ) else {
+    } = pool_of(alloc, 3, 2, &plan)?;
+    let writer = Writer::new(alloc, &pool, &plan, publisher)?;
+    let Some(mut late) = take_holder(&pool, &mut readers) else {
+        return Ok(None);
+    };
+    let Some(holder) = take_holder(&pool, &mut readers) else {
+        return Ok(None);
+    };
+    let (announced, holds) = beside(rt, writer, holder);
+    let behind = late.show();
+    Ok(Some((announced, holds, behind, late.tally.lost())))
+}
+
+#[test]
+fn a_reader_holds_versions_beside_the_publisher(rt: HostRuntime) -> Result<(), Fail> {
+    // One reader pins one slot at a time, so there is always another one to claim.
+    let Some((announced, holds, behind, lost)) = shown_behind(&rt, rt.alloc())? else {
         return Err("no reader".into());
     };
-    let present = Pair {
-        graph: Graph::new(alloc, 2)?,
-        number: 0,
-    };
-    // One reader pins one slot at a time, so there is always another one to claim.
-    let (announced, holds) = beside(&rt, &pool, &plan, publisher, present, reader);
     assert_eq!(rt; announced, LAST);
     assert!(rt; holds.sound && holds.count > 0, "{holds:?}");
-    let mut tally = Tally::new();
-    assert_eq!(rt;
-        shown_at_once(&mut late, &pool, &mut tally),
-        Some((LAST, LAST))
-    );
-    assert_eq!(rt; tally.lost(), 0);
+    assert_eq!(rt; (behind, lost), (Some((LAST, LAST)), 0));
     Ok(())
 }
 
 /// How many of the readers show this in one hold.
-fn showing(mut readers: Vec<Reader>, pool: &Pool<'_>, wanted: (u64, u64)) -> u32
+fn showing<'a>(pool: &'a Pool<'a>, mut readers: Vec<Reader>, wanted: (u64, u64)) -> u32
     requires { All (IsReaderOf pool.now) readers.items }
 {
-    let mut tally = Tally::new();
     let mut count = 0u32;
     for _ in 0..MOST_READERS {
-        let Some(mut reader) = take_reader(&mut readers, pool) else {
+        let Some(mut holder) = take_holder(pool, &mut readers) else {
             break;
         };
-        if shown_at_once(&mut reader, pool, &mut tally) == Some(wanted) {
+        if holder.show() == Some(wanted) {
             count = count.saturating_add(1);
         }
     }
     count
 }
 
-#[test]
-fn every_reader_of_the_largest_pool_shows_the_last_number(rt: HostRuntime) -> Result<(), Fail> {
-    let alloc = rt.alloc();
+/// What the largest pool has announced at last, the turns that were lost, and how many of its
+/// readers show the last number.
+fn largest(alloc: Global) -> Result<(u64, u64, u32), Fail> {
     let plan = updates(alloc)?;
-    let first = Version::new(alloc, 2)?;
     let PoolParts {
         pool,
-        mut publisher,
+        publisher,
         readers,
-    } = Pool::new(alloc, 64, 32, &plan, &first)?;
-    let mut present = Pair {
-        graph: Graph::new(alloc, 2)?,
-        number: 0,
-    };
-    let mut tally = Tally::new();
-    let announced = publish_all(&mut publisher, &pool, &plan, &mut present, &mut tally);
-    assert_eq!(rt; (announced, tally.lost()), (LAST, 0));
-    assert_eq!(rt; showing(readers, &pool, (LAST, LAST)), 32);
+    } = pool_of(alloc, MOST_SLOTS, MOST_READERS, &plan)?;
+    let mut writer = Writer::new(alloc, &pool, &plan, publisher)?;
+    let announced = writer.publish_all();
+    let lost = writer.tally.lost();
+    Ok((announced, lost, showing(&pool, readers, (LAST, LAST))))
+}
+
+#[test]
+fn every_reader_of_the_largest_pool_shows_the_last_number(rt: HostRuntime) -> Result<(), Fail> {
+    assert_eq!(rt; largest(rt.alloc())?, (LAST, 0, 32));
     Ok(())
 }

@@ -1,6 +1,7 @@
 //! The announced word, and the rule that every step at it keeps.
 
 ghost use Rattle.std.specs.Prelude.{◌≡◌, ◌≢◌, ◌+◌, ◌^◌, ◌<◌, ◌≤◌, [], IfOk};
+ghost use Rattle.apsp_model.specs.declared.TheConstants.{MOST_UPDATES, MOST_SLOTS};
 ghost use Rattle.version_pool.specs.Marks.{mark, view, new_reader, new_note, learned};
 ghost use Rattle.version_pool.specs.declared.word.Role.TheVariants.{Publisher, Reader, Note, Spent};
 
@@ -102,8 +103,8 @@ pub type Board = Table<(), View, Opening, Announced, Global>;
 /// A new word, in which the number lo is announced in slot 0, and the publisher's seat at it.
 pub fn board(alloc: Global, slots: u32, lo: u64) -> Result<(Board, Place), AllocError>
     requires some { 1 ≤ slots }
-    requires most { slots ≤ 64 }
-    requires lo { lo ≤ 2 ^ 40 }
+    requires most { slots ≤ MOST_SLOTS }
+    requires lo { lo ≤ MOST_UPDATES }
     ensures one_word { IfOk result (λ b. b.0.shared.table_id.words ≡ 1) }
     ensures table { IfOk result (λ b. b.1.table_id ≡ b.0.shared.table_id) }
     ensures publisher { IfOk result (λ b. b.1.me ≡ (view Publisher (mark lo 0) 0 slots, [])) }
@@ -138,7 +139,7 @@ pub fn announce(word: &Word, seat: &mut Place, next: Mark)
     requires word { (word.now.table_id.words ≡ 1) × (seat.old.table_id ≡ word.now.table_id) }
     requires publisher { seat.old.me.0.role ≡ Publisher }
     requires next { next.number ≡ seat.old.me.0.mark.number + 1 }
-    requires small { next.number ≤ 2 ^ 40 }
+    requires small { next.number ≤ MOST_UPDATES }
     requires slot { (next.slot < seat.old.me.0.slots) × (next.slot < 64) }
     ensures table { seat.new.table_id ≡ seat.old.table_id }
     ensures announced { seat.new.me ≡ (view Publisher next seat.old.me.0.looks seat.old.me.0.slots, seat.old.me.1) }
