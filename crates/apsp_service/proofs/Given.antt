@@ -24,7 +24,8 @@ use Rattle.apsp_service.specs.Replies.{answer_text}
 use Rattle.apsp_service.specs.declared.stop.Stop.{Stop}
 use Rattle.apsp_service.specs.declared.stop.Stop.TheVariants as stop
 use Rattle.apsp_service.specs.Session.{State, HasAnswer, HasLineReply, LineHasReply, HasReply, HaveReplies, HaveAllReplies, ending_of, context_of, counted, after_read, after_line, after_lines}
-use Rattle.apsp_service.specs.Giving.{Gave, GaveAll, GaveFront, GaveFrontOfAll, StopsAmong, GivingEnds, TextGiven, LinesGiven, CertificateGiven, GrowsBy, as_stop}
+use Rattle.apsp_service.specs.Giving.{Gave, GaveAll, GaveFront, GaveFrontOfAll, StopsAmong, GivingEnds, TextGiven, CertificateGiven, as_stop}
+use Rattle.apsp_service.specs.Growing.{LinesGiven, GrowsBy}
 use Rattle.apsp_service.specs.Lawful.{IsLawful}
 use Rattle.apsp_service.proofs.Replied.{replies_append, one_reply, front_of_more, front_behind, front_none}
 

@@ -12,8 +12,9 @@ use Rattle.apsp_service.specs.declared.stop.Stop.TheVariants as stop
 use Rattle.apsp_service.specs.declared.run.TheConstants.{MOST_INPUT}
 use Rattle.apsp_service.specs.Begun.{lines_from, rest_from}
 use Rattle.apsp_service.specs.Session.{State, opening, ending_of, has_refused, after_lines}
-use Rattle.apsp_service.specs.Giving.{Gave, GaveFront, GaveFrontOfAll, LinesGiven, StopsAmong}
-use Rattle.apsp_service.specs.Standing.{IsAt, IsAfter}
+use Rattle.apsp_service.specs.Giving.{Gave, GaveFront, GaveFrontOfAll, StopsAmong}
+use Rattle.apsp_service.specs.Growing.{LinesGiven}
+use Rattle.apsp_service.specs.Standing.{HasStateAndContent, HasTaken}
 use Rattle.apsp_service.specs.Running.{SoFar, StoppedAfter, StoppedAmong, StopsRun, TookPiece, PieceEnds, AtEnd, AllEnds, RanToEnd, RunEnds, TakeEnds}
 use Rattle.apsp_io.specs.Streams.{GrowsByPrefix}
 use Rattle.apsp_service.specs.Lawful.{IsLawful}
@@ -105,7 +106,7 @@ module _ (start : State) (lawful : IsLawful start) where
       subst F (sym (h ∙ ends.0)) ((bytes, after, few), ends.2)
 
   -- a stop while a part of the piece is answered
-  pub piece_stops : (r : Result ℕ Stop) (e : Stop) (session next : Session) (left mid left_now held held_mid held_now : Option (List ℕ)) (before now sink_before sink_now : ℕ) (bytes piece part : List ℕ) → IsErrAnd r (λ y. y ≡ e) → SoFar start session left mid held held_mid bytes → Consumes mid left_now piece → length bytes + length piece ≤ MOST_INPUT + 1 → take MOST_INPUT (bytes ++ piece) ≡ bytes ++ part → ((s : State) (content : List ℕ) → IsAt session s content → StopsAmong e held_mid held_now sink_before sink_now s (lines_from content part)) → PieceEnds start r next left left_now held held_now before now sink_before sink_now bytes
+  pub piece_stops : (r : Result ℕ Stop) (e : Stop) (session next : Session) (left mid left_now held held_mid held_now : Option (List ℕ)) (before now sink_before sink_now : ℕ) (bytes piece part : List ℕ) → IsErrAnd r (λ y. y ≡ e) → SoFar start session left mid held held_mid bytes → Consumes mid left_now piece → length bytes + length piece ≤ MOST_INPUT + 1 → take MOST_INPUT (bytes ++ piece) ≡ bytes ++ part → ((s : State) (content : List ℕ) → HasStateAndContent session s content → StopsAmong e held_mid held_now sink_before sink_now s (lines_from content part)) → PieceEnds start r next left left_now held held_now before now sink_before sink_now bytes
   piece_stops (Ok a) e session next left mid left_now held held_mid held_now before now sink_before sink_now bytes piece part h so_far taken few is stops = absurd h
   piece_stops (Err y) e session next left mid left_now held held_mid held_now before now sink_before sink_now bytes piece part h so_far taken few is stops =
       let F : Stop → Type 0 = λ z. StopsRun start z left left_now held held_now before now sink_before sink_now in
@@ -115,7 +116,7 @@ module _ (start : State) (lawful : IsLawful start) where
       subst G lines_are (stops_behind e held held_mid held_now sink_before sink_before sink_now start (lines_from [] bytes) (lines_from (rest_from [] bytes) part) so_far.gave (omega arith) (stops _ _ so_far.after)) in
       subst F (sym h) (stops_run e left left_now held held_now before now sink_before sink_now (bytes ++ piece) (bytes ++ part) (consumes_both left mid left_now bytes piece so_far.taken taken) (omega (arith, length-append bytes piece)) is stop)
 
-  pub took_piece : (session next : Session) (left mid left_now held held_mid held_now : Option (List ℕ)) (bytes piece : List ℕ) (count : ℕ) → length piece ≡ count → SoFar start session left mid held held_mid bytes → Consumes mid left_now piece → (count ≡ 0 → IsAtEnd left_now) → ((s : State) (content : List ℕ) → IsAt session s content → IsAfter next s content piece × Gave held_mid held_now s (lines_from content piece)) → TookPiece start next left left_now held held_now bytes count
+  pub took_piece : (session next : Session) (left mid left_now held held_mid held_now : Option (List ℕ)) (bytes piece : List ℕ) (count : ℕ) → length piece ≡ count → SoFar start session left mid held held_mid bytes → Consumes mid left_now piece → (count ≡ 0 → IsAtEnd left_now) → ((s : State) (content : List ℕ) → HasStateAndContent session s content → HasTaken next s content piece × Gave held_mid held_now s (lines_from content piece)) → TookPiece start next left left_now held held_now bytes count
   took_piece session next left mid left_now held held_mid held_now bytes piece count size so_far taken last takes =
       let h = takes _ _ so_far.after in
       record {
@@ -129,7 +130,7 @@ module _ (start : State) (lawful : IsLawful start) where
         last = last;
       }
 
-  pub took_too_much : (session next : Session) (left mid left_now held held_mid held_now : Option (List ℕ)) (bytes piece part : List ℕ) → SoFar start session left mid held held_mid bytes → Consumes mid left_now piece → length bytes + length piece ≡ MOST_INPUT + 1 → take MOST_INPUT (bytes ++ piece) ≡ bytes ++ part → ((s : State) (content : List ℕ) → IsAt session s content → IsAfter next s content part × Gave held_mid held_now s (lines_from content part)) → (all : List ℕ) × StoppedAfter start left left_now held held_now all × (length all ≡ MOST_INPUT + 1)
+  pub took_too_much : (session next : Session) (left mid left_now held held_mid held_now : Option (List ℕ)) (bytes piece part : List ℕ) → SoFar start session left mid held held_mid bytes → Consumes mid left_now piece → length bytes + length piece ≡ MOST_INPUT + 1 → take MOST_INPUT (bytes ++ piece) ≡ bytes ++ part → ((s : State) (content : List ℕ) → HasStateAndContent session s content → HasTaken next s content part × Gave held_mid held_now s (lines_from content part)) → (all : List ℕ) × StoppedAfter start left left_now held held_now all × (length all ≡ MOST_INPUT + 1)
   took_too_much session next left mid left_now held held_mid held_now bytes piece part so_far taken size is takes =
       let h = takes _ _ so_far.after in
       let G : List ℕ → Type 0 = λ z. Gave held held_now start (lines_from [] z) in (
@@ -169,7 +170,7 @@ module _ (start : State) (lawful : IsLawful start) where
 
   -- ---- the whole run
 
-  pub run_begins : (session : Session) (left held : Option (List ℕ)) → IsAt session start [] → SoFar start session left left held held []
+  pub run_begins : (session : Session) (left held : Option (List ℕ)) → HasStateAndContent session start [] → SoFar start session left left held held []
   run_begins session left held at = record { taken = consumes_nothing left; after = at; gave = gave_nothing held start }
 
   pub run_without_memory : (r : Result Bool Stop) (left held : Option (List ℕ)) (before sink_before : ℕ) → IsErrAnd r (λ e. e ≡ stop.Memory) → RunEnds start r left left held held before before sink_before sink_before
@@ -202,7 +203,7 @@ module _ (start : State) (lawful : IsLawful start) where
   stops_at_end stop.Memory left left_now held held_now before now sink_before sink_now bytes taken last few h = (bytes, among_all left left_now held held_now bytes taken last few (front_to_end held held_now start (lines_of bytes) h))
   stops_at_end stop.Limit left left_now held held_now before now sink_before sink_now bytes taken last few h = absurd h
 
-  pub run_stops_last : (b : State) (r : Result Bool Stop) (e : Stop) (session : Session) (left left_now held held_mid held_now : Option (List ℕ)) (before now sink_first sink_before sink_now : ℕ) (bytes : List ℕ) → start ≡ b → IsErrAnd r (λ y. y ≡ e) → AtEnd start session left left_now held held_mid bytes → sink_first ≤ sink_before → ((s : State) (content : List ℕ) → IsAt session s content → StopsAmong e held_mid held_now sink_before sink_now s (line_if_some content)) → RunEnds b r left left_now held held_now before now sink_first sink_now
+  pub run_stops_last : (b : State) (r : Result Bool Stop) (e : Stop) (session : Session) (left left_now held held_mid held_now : Option (List ℕ)) (before now sink_first sink_before sink_now : ℕ) (bytes : List ℕ) → start ≡ b → IsErrAnd r (λ y. y ≡ e) → AtEnd start session left left_now held held_mid bytes → sink_first ≤ sink_before → ((s : State) (content : List ℕ) → HasStateAndContent session s content → StopsAmong e held_mid held_now sink_before sink_now s (line_if_some content)) → RunEnds b r left left_now held held_now before now sink_first sink_now
   run_stops_last b (Ok a) e session left left_now held held_mid held_now before now sink_first sink_before sink_now bytes same h end l stops = absurd h
   run_stops_last b (Err y) e session left left_now held held_mid held_now before now sink_first sink_before sink_now bytes same h end l stops =
       let F : Stop → Type 0 = λ z. StopsRun b z left left_now held held_now before now sink_first sink_now in
@@ -213,7 +214,7 @@ module _ (start : State) (lawful : IsLawful start) where
       subst F (sym h) (subst H same (stops_at_end e left left_now held held_now before now sink_first sink_now bytes end.so_far.taken end.last end.few stop))
 
   -- a stop while the reply to the end of the input is given
-  pub run_stops_end : (b : State) (r : Result Bool Stop) (e : Stop) (session : Session) (left left_now held held_mid held_last held_now : Option (List ℕ)) (before now sink_first sink_before sink_now : ℕ) (bytes : List ℕ) → start ≡ b → IsErrAnd r (λ y. y ≡ e) → AtEnd start session left left_now held held_mid bytes → sink_first ≤ sink_before → ((s : State) (content : List ℕ) → IsAt session s content → Gave held_mid held_last s (line_if_some content)) → ((s : State) (content : List ℕ) → IsAt session s content → LinesGiven {A = Unit {0}} (Err e) held_last held_now sink_before sink_now (ending_of (after_lines s (line_if_some content)))) → RunEnds b r left left_now held held_now before now sink_first sink_now
+  pub run_stops_end : (b : State) (r : Result Bool Stop) (e : Stop) (session : Session) (left left_now held held_mid held_last held_now : Option (List ℕ)) (before now sink_first sink_before sink_now : ℕ) (bytes : List ℕ) → start ≡ b → IsErrAnd r (λ y. y ≡ e) → AtEnd start session left left_now held held_mid bytes → sink_first ≤ sink_before → ((s : State) (content : List ℕ) → HasStateAndContent session s content → Gave held_mid held_last s (line_if_some content)) → ((s : State) (content : List ℕ) → HasStateAndContent session s content → LinesGiven {A = Unit {0}} (Err e) held_last held_now sink_before sink_now (ending_of (after_lines s (line_if_some content)))) → RunEnds b r left left_now held held_now before now sink_first sink_now
   run_stops_end b (Ok a) e session left left_now held held_mid held_last held_now before now sink_first sink_before sink_now bytes same h end l gives stops = absurd h
   run_stops_end b (Err y) e session left left_now held held_mid held_last held_now before now sink_first sink_before sink_now bytes same h end l gives stops =
       let F : Stop → Type 0 = λ z. StopsRun b z left left_now held held_now before now sink_first sink_now in
@@ -245,7 +246,7 @@ module _ (start : State) (lawful : IsLawful start) where
       at_end stop.Memory k = (bytes, among_all left left_now held held_now bytes end.so_far.taken end.last end.few (front_here k))
       at_end stop.Limit k = absurd k
 
-  pub ran_to_end : (session : Session) (left left_now held held_mid held_last held_now : Option (List ℕ)) (some_refused : Bool) (bytes : List ℕ) → AtEnd start session left left_now held held_mid bytes → ((s : State) (content : List ℕ) → IsAt session s content → Gave held_mid held_last s (line_if_some content)) → ((s : State) (content : List ℕ) → IsAt session s content → Appends held_last held_now (ending_of (after_lines s (line_if_some content)))) → ((s : State) (content : List ℕ) → IsAt session s content → some_refused ≡ has_refused (after_lines s (line_if_some content))) → (all : List ℕ) × RanToEnd start left left_now held held_now some_refused all
+  pub ran_to_end : (session : Session) (left left_now held held_mid held_last held_now : Option (List ℕ)) (some_refused : Bool) (bytes : List ℕ) → AtEnd start session left left_now held held_mid bytes → ((s : State) (content : List ℕ) → HasStateAndContent session s content → Gave held_mid held_last s (line_if_some content)) → ((s : State) (content : List ℕ) → HasStateAndContent session s content → Appends held_last held_now (ending_of (after_lines s (line_if_some content)))) → ((s : State) (content : List ℕ) → HasStateAndContent session s content → some_refused ≡ has_refused (after_lines s (line_if_some content))) → (all : List ℕ) × RanToEnd start left left_now held held_now some_refused all
   ran_to_end session left left_now held held_mid held_last held_now some_refused bytes end gives ends refuses =
       let last = line_if_some (rest_from [] bytes) in
       let F : List (List ℕ) → Type 0 = λ ls. Gave held held_last start ls in

@@ -27,14 +27,15 @@ use Rattle.apsp_service.specs.Lawful.{IsBlockOf, IsLawful}
 use Rattle.apsp_service.proofs.Lawful.{accepted_lawful, here_vertices}
 use Rattle.script_reader.specs.Answer.{Fits}
 use Rattle.apsp_service.specs.declared.session.Session.{Session}
-use Rattle.apsp_service.specs.Giving.{HasNetwork, HasInside, IsNetworkOf, IsReady, GrowsBy, LinesGiven, CertificateGiven, vertices_in}
+use Rattle.apsp_service.specs.Giving.{HasNetwork, HasInside, IsNetworkOf, CanBeUpdated, CertificateGiven, vertices_in}
+use Rattle.apsp_service.specs.Growing.{GrowsBy, LinesGiven}
 use Rattle.apsp_service.specs.Standing.{HasState}
 
 -- the state of a session does not hang on the line that is begun
 pub with_line : (session : Session) (cutter : Cutting) (s : State) → HasState session s → HasState (record session { cutter = cutter }) s
 with_line session cutter s h = record { inside = h.inside; readers = h.readers; smooth = h.smooth; lines = h.lines; refused = h.refused }
 
-pub ready_of : (seen : Option Seen) (s : State) → HasNetwork seen s → s.lines < 2 ^ 40 → IsReady seen
+pub ready_of : (seen : Option Seen) (s : State) → HasNetwork seen s → s.lines < 2 ^ 40 → CanBeUpdated seen
 ready_of None s h few = tt
 ready_of (Some e) s h few = (h.stands.not_spent, omega (arith, h.few, few))
 

@@ -1,4 +1,4 @@
--- What holds of the fields of an open block.
+-- What holds of the fields of an open block. No public clause cites this module.
 use Rattle.std.specs.Prelude.{◌≡◌}
 use Rattle.apsp_service.specs.declared.block.OpenBlock.TheInside.{Inside}
 use Rattle.apsp_service.specs.Blocks.{last_graph}

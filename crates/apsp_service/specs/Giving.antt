@@ -1,7 +1,8 @@
--- What a session gives to a sink, and how it stops.
-use Rattle.std.specs.Prelude.{◌≡◌, ℕ, ◌+◌, ◌<◌, ◌≤◌, ◌^◌, ⊤, List, [], ◌++◌, length, false, Option, Some, None, Result, Ok, Err}
+-- What a session gives to a sink, and how it stops. No public clause cites this module.
+use Rattle.std.specs.Prelude.{◌≡◌, ℕ, ◌+◌, ◌<◌, ◌≤◌, ⊤, List, [], ◌++◌, length, false, Option, Some, None, Result, Ok, Err}
 use Rattle.std.specs.List.{flat_map}
 use Rattle.std.specs.Io.KnownBytes.{Appends}
+use Rattle.apsp_model.specs.declared.TheConstants.{MOST_UPDATES}
 use Rattle.apsp_io.specs.Streams.{Rose, GrowsByPrefix}
 use Rattle.apsp_io.specs.declared.sink.GiveError.{GiveError}
 use Rattle.apsp_io.specs.declared.sink.GiveError.TheVariants as give
@@ -10,6 +11,7 @@ use Rattle.history_engine.specs.Advance.{Stands}
 use Rattle.script_reader.specs.Meaning.{line_of}
 use Rattle.script_reader.specs.declared.Line.TheVariants as line
 use Rattle.apsp_service.specs.Certificate.{IsCertReply}
+use Rattle.apsp_service.specs.Growing.{LinesGiven}
 use Rattle.apsp_service.specs.Replies.{answer_text}
 use Rattle.apsp_service.specs.Session.{State, context_of, LineHasReply, HaveReplies, HaveAllReplies}
 use Rattle.apsp_service.specs.Blocks.{Block, updates_in, asks_in}
@@ -47,7 +49,8 @@ StopsAmong stop.Memory old new before now s lines = GaveFront old new s lines
 StopsAmong stop.Limit old new before now s lines = ⊥
 
 -- how giving the replies to these lines ends
-abbrev pub GivingEnds : {A : Type 0} → Result A Stop → Option (List ℕ) → Option (List ℕ) → ℕ → ℕ → State → List (List ℕ) → Type 0
+abbrev pub GivingEnds : {A : Type 0} → Result A Stop → Option (List ℕ) → Option (List ℕ) → ℕ → ℕ → State → List (List ℕ)
+    → Type 0
 GivingEnds (Ok a) old new before now s lines = Gave old new s lines
 GivingEnds (Err e) old new before now s lines = StopsAmong e old new before now s lines
 
@@ -64,14 +67,6 @@ abbrev pub as_stop : Result (Unit {0}) GiveError → Result (Unit {0}) Stop
 as_stop (Ok u) = Ok u
 as_stop (Err give.Failed) = Err stop.Sink
 as_stop (Err give.Memory) = Err stop.Memory
-
--- a text was given, line by line, or a front of it
-abbrev pub LinesGiven : {A : Type 0} → Result A Stop → Option (List ℕ) → Option (List ℕ) → ℕ → ℕ → List ℕ → Type 0
-LinesGiven (Ok a) old new before now text = Appends old new text
-LinesGiven (Err stop.Source) old new before now text = ⊥
-LinesGiven (Err stop.Sink) old new before now text = GrowsByPrefix old new text × Rose before now
-LinesGiven (Err stop.Memory) old new before now text = GrowsByPrefix old new text
-LinesGiven (Err stop.Limit) old new before now text = ⊥
 
 -- the certificate of the state's version was given, or a front of it
 abbrev pub CertificateGiven : {A : Type 0} → Result A Stop → Option (List ℕ) → Option (List ℕ) → ℕ → ℕ → State → Type 0
@@ -108,10 +103,6 @@ vertices_in None = 0
 vertices_in (Some e) = e.opening
 
 -- memory never ran out, and one more update may be made
-abbrev pub IsReady : Option Seen → Type 0
-IsReady None = ⊤
-IsReady (Some e) = (e.spent ≡ false) × (length e.vertices < 2 ^ 40)
-
--- a text grows by a reply of this kind
-abbrev pub GrowsBy : (List ℕ → Type 0) → List ℕ → List ℕ → Type 0
-GrowsBy IsReply old new = (reply : List ℕ) × IsReply reply × (new ≡ old ++ reply)
+abbrev pub CanBeUpdated : Option Seen → Type 0
+CanBeUpdated None = ⊤
+CanBeUpdated (Some e) = (e.spent ≡ false) × (length e.vertices < MOST_UPDATES)

@@ -1,4 +1,4 @@
--- What holds of the block of a state that lines lead to.
+-- What holds of the block of a state that lines lead to. No public clause cites this module.
 use Rattle.std.specs.Prelude.{◌≡◌, ℕ, ◌≤◌, List, length, All, None, IfSome}
 use Rattle.apsp_model.specs.declared.TheConstants.{MOST_VERTICES}
 use Rattle.apsp_model.specs.Command.{Command, graph_of, vertices_of}

@@ -12,6 +12,7 @@ pub mod Blocks
 pub mod Session
 pub mod Lawful
 pub mod BlockInside
+pub mod Growing
 pub mod Giving
 pub mod Standing
 pub mod Running

@@ -32,8 +32,9 @@ path_text g x y walk = codes "path " ++ decimal x ++ codes " " ++ decimal y ++ w
 
 abbrev pub stats_text : Counts → List ℕ
 stats_text c =
-    codes "stats updates " ++ decimal c.updates ++ codes " steps " ++ decimal c.steps ++ codes " paths " ++ decimal c.paths
-    ++ codes " historical " ++ decimal c.historical ++ codes " formed " ++ decimal c.formed ++ codes " removed " ++ decimal c.removed ++ codes "\n"
+    codes "stats updates " ++ decimal c.updates ++ codes " steps " ++ decimal c.steps
+    ++ codes " paths " ++ decimal c.paths ++ codes " historical " ++ decimal c.historical
+    ++ codes " formed " ++ decimal c.formed ++ codes " removed " ++ decimal c.removed ++ codes "\n"
 
 -- a birth behind its word
 abbrev pub birth_text : Option ℕ → List ℕ
@@ -45,7 +46,8 @@ age_text list birth = codes "age" ++ flat_map number_text list ++ birth_text bir
 
 -- the refusal of the line with this number
 abbrev pub error_text : ℕ → ℕ → ℕ → List ℕ
-error_text line code place = codes "line " ++ decimal line ++ codes " error " ++ decimal code ++ codes " at " ++ decimal place ++ codes "\n"
+error_text line code place =
+    codes "line " ++ decimal line ++ codes " error " ++ decimal code ++ codes " at " ++ decimal place ++ codes "\n"
 
 -- the walk of an answer behind its weight; a walk has at least one vertex
 abbrev pub answer_walk_text : ℕ → List ℕ → List ℕ
@@ -53,4 +55,5 @@ answer_walk_text dist [] = codes " none"
 answer_walk_text dist (v ∷ walk) = number_text dist ++ codes " walk" ++ flat_map number_text (v ∷ walk)
 
 abbrev pub answer_text : Answer → List ℕ
-answer_text a = codes "at " ++ decimal a.number ++ codes " path " ++ decimal a.x ++ codes " " ++ decimal a.y ++ answer_walk_text a.dist a.walk ++ codes "\n"
+answer_text a = codes "at " ++ decimal a.number ++ codes " path " ++ decimal a.x ++ codes " " ++ decimal a.y
+    ++ answer_walk_text a.dist a.walk ++ codes "\n"

@@ -21,7 +21,7 @@ use Rattle.apsp_service.specs.Certificate.{IsCertReply}
 use Rattle.apsp_service.specs.Check.{IsChecked}
 use Rattle.apsp_service.specs.Load.{IsLoadReply}
 use Rattle.apsp_service.specs.Replies.{error_text, answer_text}
-use Rattle.graph_store.specs.Plan.{Plan, with_star}
+use Rattle.graph_store.specs.Plan.{with_star}
 use Rattle.apsp_service.specs.Blocks.{Block, last_graph, updates_in, asks_in}
 use Rattle.block_run.specs.Answers.{BlockReply}
 use Rattle.block_run.specs.declared.asks.Ask.{Ask}
@@ -82,7 +82,8 @@ updated s star = updated_in s s.block star
 
 -- a block that has nothing yet
 abbrev pub fresh_block : State → Block
-fresh_block s = record { plan = record { start = present_graph s; lo = length (vertices_of s.commands); stars = [] }; asks = [] }
+fresh_block s =
+    record { plan = record { start = present_graph s; lo = length (vertices_of s.commands); stars = [] }; asks = [] }
 
 -- a mode without blocks begins none; its lines are refused there
 abbrev pub begun_in : State → Option ℕ → State
@@ -160,7 +161,8 @@ LineHasReply s bytes text = HasAnswer s (line_of (context_of s) bytes) text
 -- the replies to the lines, one after another
 abbrev pub HaveReplies : State → List (List ℕ) → List ℕ → Type 0
 HaveReplies s [] text = text ≡ []
-HaveReplies s (bytes ∷ lines) text = (reply : List ℕ) × (replies : List ℕ) × LineHasReply s bytes reply × HaveReplies (after_line s bytes) lines replies × (text ≡ reply ++ replies)
+HaveReplies s (bytes ∷ lines) text = (reply : List ℕ) × (replies : List ℕ) × LineHasReply s bytes reply
+    × HaveReplies (after_line s bytes) lines replies × (text ≡ reply ++ replies)
 
 abbrev pub after_lines : State → List (List ℕ) → State
 after_lines s [] = s
@@ -176,7 +178,8 @@ ending_of s = ending_in s.block s.lines
 
 -- the replies to all lines and to the end of the input
 abbrev pub HaveAllReplies : State → List (List ℕ) → List ℕ → Type 0
-HaveAllReplies s lines text = (replies : List ℕ) × HaveReplies s lines replies × (text ≡ replies ++ ending_of (after_lines s lines))
+HaveAllReplies s lines text =
+    (replies : List ℕ) × HaveReplies s lines replies × (text ≡ replies ++ ending_of (after_lines s lines))
 
 -- 1 where some line was refused, or a block was open at the end
 abbrev pub has_refused : State → Bool
@@ -193,7 +196,8 @@ HasSession start bytes text status =
 -- an input of these bytes has this text and this status
 abbrev pub Session : Mode → List ℕ → List ℕ → ℕ → Type 0
 Session (mode.Run workers smooth) bytes text status = HasSession (opening None smooth) bytes text status
-Session (mode.Live workers readers slots smooth) bytes text status = HasSession (opening (Some readers) smooth) bytes text status
+Session (mode.Live workers readers slots smooth) bytes text status =
+    HasSession (opening (Some readers) smooth) bytes text status
 Session mode.Check bytes text status = IsChecked bytes text status
 Session (mode.Load n seed workers) bytes text status = IsLoadReply n seed text × (status ≡ 0)
 
@@ -221,6 +225,7 @@ pub record HasOneStatus (mode : Mode) (bytes : List ℕ) : Type 0 where
 -- the replies to whole lines alone; the modes without lines have none before their end
 abbrev pub HasWholeReplies : Mode → List ℕ → List ℕ → Type 0
 HasWholeReplies (mode.Run workers smooth) bytes text = HaveReplies (opening None smooth) (whole_lines bytes) text
-HasWholeReplies (mode.Live workers readers slots smooth) bytes text = HaveReplies (opening (Some readers) smooth) (whole_lines bytes) text
+HasWholeReplies (mode.Live workers readers slots smooth) bytes text =
+    HaveReplies (opening (Some readers) smooth) (whole_lines bytes) text
 HasWholeReplies mode.Check bytes text = text ≡ []
 HasWholeReplies (mode.Load n seed workers) bytes text = text ≡ []

@@ -1,22 +1,13 @@
 -- The words of the command line.
 use Rattle.std.specs.Prelude.{ℕ, ◌≤◌, ⊤, Bool, true, false, ◌&&◌, ◌||◌, nat_le, is_some, List, [], ◌∷◌, length, Option, Some, None, IfSome, option_map, option_and_then, unwrap_or, codes, if◌then◌else◌}
 use Rattle.std.specs.Str.{bytes_eq}
+use Rattle.apsp_model.specs.Limits.{IsWorkerCount, IsReaderCount, IsSlotCount}
+use Rattle.apsp_model.specs.declared.TheConstants.{MOST_WORKERS, MOST_READERS, LEAST_SLOTS, MOST_SLOTS}
 use Rattle.script_reader.specs.Numbers.{number_of}
 use Rattle.apsp_service.specs.declared.words.Mode.{Mode}
 use Rattle.apsp_service.specs.declared.words.Mode.TheVariants as mode
 use Rattle.apsp_service.specs.declared.words.Options.{Options}
-use Rattle.apsp_service.specs.declared.words.TheConstants.{MOST_WORKERS, WORKERS, MOST_READERS, READERS, LEAST_SLOTS, MOST_SLOTS, SLOTS, LEAST_DRAWN, MOST_DRAWN, MOST_DIGITS}
-
--- how many workers there may be
-abbrev pub IsWorkerCount : ℕ → Type 0
-IsWorkerCount workers = (1 ≤ workers) × (workers ≤ MOST_WORKERS)
-
--- how many readers and slots of a block there may be
-abbrev pub IsReaderCount : ℕ → Type 0
-IsReaderCount readers = (1 ≤ readers) × (readers ≤ MOST_READERS)
-
-abbrev pub IsSlotCount : ℕ → Type 0
-IsSlotCount slots = (LEAST_SLOTS ≤ slots) × (slots ≤ MOST_SLOTS)
+use Rattle.apsp_service.specs.declared.words.TheConstants.{WORKERS, READERS, SLOTS, LEAST_DRAWN, MOST_DRAWN, MOST_DIGITS}
 
 -- how many vertices generated input may have
 abbrev pub IsLoadSize : ℕ → Type 0
@@ -94,11 +85,13 @@ check_of (option ∷ options) = None
 -- the mode `load` with the words of its two numbers, and its options
 abbrev pub load_with : ℕ → ℕ → Options → Option Mode
 load_with n seed o =
-    if o.smooth || (is_some o.readers || is_some o.slots) then None else Some (mode.Load n seed (unwrap_or o.workers WORKERS))
+    if o.smooth || (is_some o.readers || is_some o.slots) then None
+    else Some (mode.Load n seed (unwrap_or o.workers WORKERS))
 
 abbrev pub drawn_of : List ℕ → List ℕ → List (List ℕ) → Option Mode
 drawn_of n seed words =
-    option_and_then (λ k. option_and_then (λ s. option_and_then (load_with k s) (options_from no_options words)) (word_number seed))
+    option_and_then
+    (λ k. option_and_then (λ s. option_and_then (load_with k s) (options_from no_options words)) (word_number seed))
     (number_in LEAST_DRAWN MOST_DRAWN n)
 
 abbrev pub load_of : List (List ℕ) → Option Mode

@@ -2,6 +2,7 @@
 
 ghost use Rattle.std.specs.Prelude.{◌≡◌, ◌≢◌, ◌<◌, ◌^◌, ◌∷◌, ◌++◌, [], IfOk, OnOk, length};
 ghost use Rattle.std.specs.Option.{ForSome};
+ghost use Rattle.apsp_model.specs.declared.TheConstants.{MOST_UPDATES};
 ghost use Rattle.graph_store.specs.Edges.{IsWeight};
 ghost use Rattle.graph_store.specs.Plan.{hi_of, with_star};
 ghost use Rattle.apsp_service.specs.Blocks.{last_graph};
@@ -38,7 +39,7 @@ impl Model for OpenBlock {
 impl OpenBlock {
     /// A block behind this graph, which has this number.
     pub fn new(alloc: Global, start: &Graph, lo: u64) -> Result<OpenBlock, AllocError>
-        requires few { lo < 2 ^ 40 }
+        requires few { lo < MOST_UPDATES }
         ensures { IfOk result (λ b.
             b ≡ record { plan = record { start = start.now; lo = lo; stars = [] }; asks = [] }) }
     {
@@ -86,7 +87,7 @@ impl OpenBlock {
     /// One update more.
     pub fn apply(&mut self, star: Star) -> Result<(), AllocError>
         requires same { star.vertices ≡ (last_graph self.old.plan).vertices }
-        requires few { hi_of self.old.plan < 2 ^ 40 }
+        requires few { hi_of self.old.plan < MOST_UPDATES }
         ensures { OnOk result (self.new ≡ record self.old { plan = with_star self.old.plan star }) }
     {
         match self.plan.add(star) {
@@ -105,7 +106,7 @@ impl OpenBlock {
         requires to { v < (last_graph self.old.plan).vertices }
         requires apart { u ≢ v }
         requires weight { ForSome weight IsWeight }
-        requires few { hi_of self.old.plan < 2 ^ 40 }
+        requires few { hi_of self.old.plan < MOST_UPDATES }
         ensures { OnOk result (self.new ≡ record self.old {
           plan = with_star self.old.plan (star_with (last_graph self.old.plan) u v weight);
         }) }

@@ -61,11 +61,12 @@ impl Blocks for NoBlocks {
 /// part of the signatures of a session.
 #[derive(Drop)]
 pub struct LiveBlocks<'a, F> {
-    readers: u32,
-    run: &'a F,
+    pub readers: u32,
+    pub run: &'a F,
 }
 
 impl<'a, F: Fn(&mut Engine, &Plan, &Asks) -> Result<BlockAnswers, Memory>> LiveBlocks<'a, F> {
+    /// With so many readers.
     pub fn new(readers: u32, run: &'a F) -> LiveBlocks<'a, F>
         ensures readers { result.readers ≡ readers }
         ensures run { result.run.now ≡ run.now }

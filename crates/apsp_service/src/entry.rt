@@ -1,7 +1,8 @@
 ghost use Rattle.std.specs.Prelude.{◌≡◌, ◌⊎◌, ◌↔◌, ◌+◌, ◌≤◌, List, [], ℕ, length, map, None, IfSome, IsSome, false, string_bytes};
 ghost use Rattle.block_run.specs.Run.{CanRun, HasRun};
-ghost use Rattle.apsp_service.specs.Words.{HasWorkers, IsWorkerCount, IsReaderCount, IsSlotCount, mode_of};
+ghost use Rattle.apsp_service.specs.Words.{HasWorkers, mode_of};
 ghost use Rattle.std.specs.Io.KnownBytes.{Appends};
+ghost use Rattle.apsp_model.specs.Limits.{IsWorkerCount, IsReaderCount, IsSlotCount};
 ghost use Rattle.apsp_io.specs.Streams.{Rose};
 ghost use Rattle.apsp_service.specs.Session.{Session, has_blocks};
 ghost use Rattle.apsp_service.specs.Outcome.{status_after, ReadToEnd, IsStatus, IsAnswered, IsStoppedEarly, IsCutShort, IsComplete, IsCheck, IsLoad, IsLoadEnd, IsLoadStatus, TookMoreThan, TookAtMost, SaysTooMuch, SaysRefused};
@@ -9,7 +10,7 @@ ghost use Rattle.apsp_service.specs.Ending.{EndsAs};
 
 use crate::blocks::{LiveBlocks, NoBlocks};
 use crate::check::check_input;
-use crate::crew::Crew;
+use crate::executor::Executor;
 use crate::load::load;
 use crate::run::{MOST_INPUT, run};
 use crate::stop::Stop;
@@ -43,24 +44,31 @@ pub fn script<S: Source, K: Sink, G: Gate, R: Threads + Sync>(
     requires workers { HasWorkers mode.now }
     requires no_blocks { has_blocks mode.now ≡ false }
     // Of a status: the session of the whole input gives it, or what failed has counted a fault.
-    ensures answered { ReadToEnd result → IsAnswered mode.now (S.left source.old) (S.left source.new) (K.held sink.old) (K.held sink.new) result }
+    ensures answered { ReadToEnd result
+        → IsAnswered mode.now (S.left source.old) (S.left source.new) (K.held sink.old) (K.held sink.new) result }
     ensures source_failed { result ≡ 3 → Rose (S.faults source.old) (S.faults source.new) }
     ensures sink_failed { result ≡ 4 → Rose (K.faults sink.old) (K.faults sink.new) }
-    ensures too_much { result ≡ 6 → IfSome (S.left source.old) (λ _. TookMoreThan MOST_INPUT (S.left source.old) (S.left source.new)) }
+    ensures too_much { result ≡ 6
+        → IfSome (S.left source.old) (λ _. TookMoreThan MOST_INPUT (S.left source.old) (S.left source.new)) }
     ensures statuses { IsStatus result }
 
     // Which status comes: want of memory aside, and what fails.
-    ensures says_too_much { TookMoreThan MOST_INPUT (S.left source.old) (S.left source.new) → SaysTooMuch result (K.faults sink.old) (K.faults sink.new) }
+    ensures says_too_much { TookMoreThan MOST_INPUT (S.left source.old) (S.left source.new)
+        → SaysTooMuch result (K.faults sink.old) (K.faults sink.new) }
     ensures says_refused { IfSome (S.left source.old) (λ input. (text : List ℕ) → Session mode.now input text 1
-        → SaysRefused result (S.left source.old) (S.left source.new) (S.faults source.old) (S.faults source.new) (K.faults sink.old) (K.faults sink.new)) }
+        → SaysRefused result (S.left source.old) (S.left source.new) (S.faults source.old) (S.faults source.new)
+        (K.faults sink.old) (K.faults sink.new)) }
     ensures complete { IfSome (S.left source.old) (λ input. length input ≤ MOST_INPUT
         → (Rose (S.faults source.old) (S.faults source.new) → ⊥) → (Rose (K.faults sink.old) (K.faults sink.new) → ⊥)
         → (result ≡ 5) ⊎ IsComplete mode.now input (K.held sink.old) (K.held sink.new) result) }
 
     // What was written by a run that ended early.
-    ensures stopped_early { (result ≡ 3) ⊎ (result ≡ 6) → IsStoppedEarly mode.now (S.left source.old) (S.left source.new) (K.held sink.old) (K.held sink.new) }
-    ensures cut_short { (result ≡ 4) ⊎ (result ≡ 5) → IfSome (S.left source.old) (λ input. IsCutShort mode.now input (K.held sink.old) (K.held sink.new)) }
-    ensures nothing_written { IsCheck mode.now → (result ≡ 3) ⊎ ((result ≡ 5) ⊎ (result ≡ 6)) → Appends (K.held sink.old) (K.held sink.new) [] }
+    ensures stopped_early { (result ≡ 3) ⊎ (result ≡ 6)
+        → IsStoppedEarly mode.now (S.left source.old) (S.left source.new) (K.held sink.old) (K.held sink.new) }
+    ensures cut_short { (result ≡ 4) ⊎ (result ≡ 5)
+        → IfSome (S.left source.old) (λ input. IsCutShort mode.now input (K.held sink.old) (K.held sink.new)) }
+    ensures nothing_written { IsCheck mode.now → (result ≡ 3) ⊎ ((result ≡ 5) ⊎ (result ≡ 6))
+        → Appends (K.held sink.old) (K.held sink.new) [] }
 
     // The mode that generates its input.
     ensures load_statuses { IsLoad mode.now → IsLoadStatus result }
@@ -94,8 +102,8 @@ fn run_as<S: Source, K: Sink, G: Gate, R: Threads + Sync>(
     match mode {
         Mode::Run { workers, smooth } => {
             let blocks = NoBlocks;
-            let crew = Crew::new(rt, *workers, gate, &blocks);
-            run(alloc, &crew, *smooth, source, sink)
+            let executor = Executor::new(rt, *workers, gate, &blocks);
+            run(alloc, &executor, *smooth, source, sink)
         }
         Mode::Check => check_input(alloc, source, sink),
         Mode::Load { n, seed, workers } => load(rt, alloc, *n, *seed, *workers, sink, gate),
@@ -124,15 +132,20 @@ pub fn top<S: Source, K: Sink, G: Gate, R: Threads + Wait + Sync>(
         → IsAnswered mode (S.left source.old) (S.left source.new) (K.held sink.old) (K.held sink.new) result) }
     ensures source_failed { result ≡ 3 → Rose (S.faults source.old) (S.faults source.new) }
     ensures sink_failed { result ≡ 4 → Rose (K.faults sink.old) (K.faults sink.new) }
-    ensures too_much { result ≡ 6 → IfSome (S.left source.old) (λ _. TookMoreThan MOST_INPUT (S.left source.old) (S.left source.new)) }
+    ensures too_much { result ≡ 6
+        → IfSome (S.left source.old) (λ _. TookMoreThan MOST_INPUT (S.left source.old) (S.left source.new)) }
     ensures statuses { IsSome (mode_of (map string_bytes words.now)) → IsStatus result }
 
     // Which status comes: want of memory aside, and what fails.
-    ensures says_too_much { IsSome (mode_of (map string_bytes words.now)) → TookMoreThan MOST_INPUT (S.left source.old) (S.left source.new)
+    ensures says_too_much { IsSome (mode_of (map string_bytes words.now))
+        → TookMoreThan MOST_INPUT (S.left source.old) (S.left source.new)
         → SaysTooMuch result (K.faults sink.old) (K.faults sink.new) }
-    ensures says_refused { IfSome (mode_of (map string_bytes words.now)) (λ mode. IfSome (S.left source.old) (λ input. (text : List ℕ) → Session mode input text 1
-        → SaysRefused result (S.left source.old) (S.left source.new) (S.faults source.old) (S.faults source.new) (K.faults sink.old) (K.faults sink.new))) }
-    ensures complete { IfSome (mode_of (map string_bytes words.now)) (λ mode. IfSome (S.left source.old) (λ input. length input ≤ MOST_INPUT
+    ensures says_refused { IfSome (mode_of (map string_bytes words.now))
+        (λ mode. IfSome (S.left source.old) (λ input. (text : List ℕ) → Session mode input text 1
+        → SaysRefused result (S.left source.old) (S.left source.new) (S.faults source.old) (S.faults source.new)
+        (K.faults sink.old) (K.faults sink.new))) }
+    ensures complete { IfSome (mode_of (map string_bytes words.now))
+        (λ mode. IfSome (S.left source.old) (λ input. length input ≤ MOST_INPUT
         → (Rose (S.faults source.old) (S.faults source.new) → ⊥) → (Rose (K.faults sink.old) (K.faults sink.new) → ⊥)
         → (result ≡ 5) ⊎ IsComplete mode input (K.held sink.old) (K.held sink.new) result)) }
 
@@ -141,12 +154,14 @@ pub fn top<S: Source, K: Sink, G: Gate, R: Threads + Wait + Sync>(
         → IsStoppedEarly mode (S.left source.old) (S.left source.new) (K.held sink.old) (K.held sink.new)) }
     ensures cut_short { IfSome (mode_of (map string_bytes words.now)) (λ mode. (result ≡ 4) ⊎ (result ≡ 5)
         → IfSome (S.left source.old) (λ input. IsCutShort mode input (K.held sink.old) (K.held sink.new))) }
-    ensures nothing_written { IfSome (mode_of (map string_bytes words.now)) (λ mode. IsCheck mode → (result ≡ 3) ⊎ ((result ≡ 5) ⊎ (result ≡ 6))
+    ensures nothing_written { IfSome (mode_of (map string_bytes words.now))
+        (λ mode. IsCheck mode → (result ≡ 3) ⊎ ((result ≡ 5) ⊎ (result ≡ 6))
         → Appends (K.held sink.old) (K.held sink.new) []) }
 
     // The mode that generates its input.
     ensures load_statuses { IfSome (mode_of (map string_bytes words.now)) (λ mode. IsLoad mode → IsLoadStatus result) }
-    ensures load_unread { IfSome (mode_of (map string_bytes words.now)) (λ mode. IsLoad mode → source.new ≡ source.old) }
+    ensures load_unread { IfSome (mode_of (map string_bytes words.now))
+        (λ mode. IsLoad mode → source.new ≡ source.old) }
 
     ensures takes { TookAtMost (MOST_INPUT + 1) (S.left source.old) (S.left source.new) }
     ensures source_later { S.faults source.old ≤ S.faults source.new }
@@ -172,8 +187,8 @@ pub fn top<S: Source, K: Sink, G: Gate, R: Threads + Wait + Sync>(
                 ensures { HasRun readers engine.old plan.now asks.now result engine.new }
             { live_block(rt, alloc, engine, plan, asks, readers, slots, workers, gate) };
             let blocks = LiveBlocks::new(readers, &run_one);
-            let crew = Crew::new(rt, workers, gate, &blocks);
-            status(run(alloc, &crew, smooth, source, sink))
+            let executor = Executor::new(rt, workers, gate, &blocks);
+            status(run(alloc, &executor, smooth, source, sink))
         }
         Some(mode) => script(rt, alloc, &mode, source, sink, gate),
         None => 2,

@@ -5,8 +5,8 @@
 mod block;
 mod blocks;
 mod check;
-mod crew;
 mod entry;
+mod executor;
 pub mod laws;
 mod load;
 mod network;
@@ -18,7 +18,13 @@ mod stop;
 mod tests;
 mod words;
 
+pub use apsp_model::{LEAST_SLOTS, MOST_READERS, MOST_SLOTS, MOST_WORKERS};
+pub use block::OpenBlock;
 pub use block_run::{Answer, Asks, BlockAnswers, live_block};
+pub use blocks::{Blocks, LiveBlocks, NoBlocks};
 pub use entry::{script, top};
+pub use executor::{Executor, WorkerCount};
+pub use network::Network;
 pub use run::MOST_INPUT;
-pub use words::{LEAST_SLOTS, MOST_READERS, MOST_SLOTS, MOST_WORKERS, Mode, read_words};
+pub use stop::Stop;
+pub use words::{Mode, read_words};

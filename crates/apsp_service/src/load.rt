@@ -1,7 +1,8 @@
 //! A run over generated input: nothing is read, and one line says what holds at its end.
 
 ghost use Rattle.std.specs.Prelude.{◌≡◌, ◌≤◌, ◌++◌, ℕ, List, Option, OnOk, string_bytes};
-ghost use Rattle.apsp_service.specs.Words.{IsLoadSize, IsWorkerCount};
+ghost use Rattle.apsp_model.specs.Limits.{IsWorkerCount};
+ghost use Rattle.apsp_service.specs.Words.{IsLoadSize};
 ghost use Rattle.apsp_service.specs.Load.{load_text};
 ghost use Rattle.apsp_service.specs.Outcome.{IsLoadEnd};
 ghost use Rattle.apsp_service.specs.Ending.{EndsAs};

@@ -1,19 +1,20 @@
-//! The engine behind a session, and what a question or an update does with it.
+//! The network of a session: an engine, with a call for each command.
 
-ghost use Rattle.std.specs.Prelude.{◌≡◌, ◌≢◌, ◌<◌, ◌≤◌, ◌+◌, ◌++◌, ◌^◌, All, IfOk, IsSome, List, [], OnOk, Option, false, length, string_bytes, ℕ};
+ghost use Rattle.std.specs.Prelude.{◌≡◌, ◌≢◌, ◌<◌, ◌≤◌, ◌+◌, ◌++◌, All, IfOk, IsSome, List, [], OnErr, OnOk, Option, false, length, string_bytes, ℕ};
 ghost use Rattle.std.specs.Option.{ForSome};
 ghost use Rattle.std.specs.List.{flat_map};
-ghost use Rattle.apsp_model.specs.declared.TheConstants.{MOST_VERTICES};
+ghost use Rattle.apsp_model.specs.declared.TheConstants.{MOST_VERTICES, MOST_UPDATES};
 ghost use Rattle.apsp_model.specs.Command.{Command, Update};
 ghost use Rattle.apsp_model.specs.Least.{LeastIs};
 ghost use Rattle.graph_store.specs.Making.{IsVertexCount};
 ghost use Rattle.graph_store.specs.Edges.{IsWeight};
 ghost use Rattle.history_engine.specs.Advance.{Advance, Stands};
+ghost use Rattle.history_engine.specs.Answers.{IsSpentBy};
 ghost use Rattle.block_run.specs.Run.{CanRun, HasRun};
 ghost use Rattle.apsp_service.specs.Age.{IsAgeReply};
 ghost use Rattle.apsp_service.specs.Distance.{IsDistance, AreDistances, IsDistReply, IsRowReply};
 ghost use Rattle.apsp_service.specs.Certificate.{IsTextOf, version_of};
-ghost use Rattle.apsp_service.specs.Giving.{GrowsBy, LinesGiven};
+ghost use Rattle.apsp_service.specs.Growing.{GrowsBy, LinesGiven};
 ghost use Rattle.apsp_service.specs.Path.{IsPathReply};
 ghost use Rattle.apsp_service.specs.Replies.{entry_text, walk_text};
 ghost use Rattle.apsp_service.specs.Session.{star_with};
@@ -21,7 +22,7 @@ ghost use Rattle.apsp_service.specs.Stats.{IsStatsReply};
 
 use crate::block::OpenBlock;
 use crate::blocks::Blocks;
-use crate::crew::Crew;
+use crate::executor::Executor;
 use crate::replies::{put_age, put_dist, put_entry, put_stats, put_walk};
 use crate::stop::{Stop, given};
 use apsp_io::{Gate, Sink};
@@ -35,8 +36,12 @@ use std::marker::{Model, Sync};
 use std::thread::Threads;
 use version_face::Version;
 
-/// The engine, with room for the star that `edge` and `cut` make and for the version that `cert` writes,
-/// so that they take no memory for them. After want of memory in an update it is used no more.
+/// The network that the line `vertices` makes, which each later command of a session asks or changes. It
+/// is seen as its engine, and has room for the star that `edge` and `cut` make and for the version that
+/// `cert` writes, so that they take no memory for them.
+///
+/// An update for which memory ran out leaves the network spent, and then no question may be put. A reply
+/// is put behind a text as one line, of which nothing is said where memory ran out.
 #[derive(Drop)]
 pub struct Network {
     engine: Engine,
@@ -80,23 +85,31 @@ impl Network {
         self.engine.vertices()
     }
 
+    /// Whether memory ran out in an update.
+    pub fn is_spent(&self) -> bool
+        ensures { result ≡ self.now.spent }
+    {
+        self.engine.is_spent()
+    }
+
     /// Replaces the star of a vertex.
     pub fn apply<R: Threads + Sync, G: Gate, B: Blocks>(
         &mut self,
-        crew: &Crew<'_, R, G, B>,
+        executor: &Executor<'_, R, G, B>,
         star: &Star,
     ) -> Result<(), AllocError>
         requires same { star.now.vertices ≡ self.old.opening }
-        requires few { length self.old.vertices < 2 ^ 40 }
-        ensures { OnOk result (Advance self.old (Update star.now) self.new) }
+        requires few { length self.old.vertices < MOST_UPDATES }
+        ensures made { OnOk result (Advance self.old (Update star.now) self.new) }
+        ensures spent { OnErr result (IsSpentBy self.old self.new) }
     {
-        crew.update(&mut self.engine, star)
+        executor.update(&mut self.engine, star)
     }
 
     /// Gives u the star that it has, with the edge to v of this weight or without it.
     pub fn put_edge<R: Threads + Sync, G: Gate, B: Blocks>(
         &mut self,
-        crew: &Crew<'_, R, G, B>,
+        executor: &Executor<'_, R, G, B>,
         u: u32,
         v: u32,
         weight: Option<u32>,
@@ -105,12 +118,13 @@ impl Network {
         requires to { v < self.old.opening }
         requires apart { u ≢ v }
         requires weight { ForSome weight IsWeight }
-        requires few { length self.old.vertices < 2 ^ 40 }
-        ensures { OnOk result (Advance self.old (Update (star_with self.old.graph u v weight)) self.new) }
+        requires few { length self.old.vertices < MOST_UPDATES }
+        ensures made { OnOk result (Advance self.old (Update (star_with self.old.graph u v weight)) self.new) }
+        ensures spent { OnErr result (IsSpentBy self.old self.new) }
     {
         self.engine.graph().star_into(u, &mut self.star);
         self.star.put_out(v, weight);
-        crew.update(&mut self.engine, &self.star)
+        executor.update(&mut self.engine, &self.star)
     }
 
     /// The graph.
@@ -127,19 +141,19 @@ impl Network {
         self.engine.number()
     }
 
-    /// Runs a block.
+    /// Runs a block: its updates are made, and its questions are answered meanwhile.
     pub fn run_block<R: Threads + Sync, G: Gate, B: Blocks>(
         &mut self,
-        crew: &Crew<'_, R, G, B>,
+        executor: &Executor<'_, R, G, B>,
         block: &OpenBlock,
     ) -> Result<BlockAnswers, AllocError>
-        requires live { IsSome (B.readers crew.now.blocks.now) }
-        requires ready { B.ready crew.now.blocks.now }
+        requires live { IsSome (B.readers executor.now.blocks.now) }
+        requires ready { B.ready executor.now.blocks.now }
         requires can { CanRun self.old block.now.plan block.now.asks }
-        ensures { ForSome (B.readers crew.now.blocks.now) (λ r.
+        ensures { ForSome (B.readers executor.now.blocks.now) (λ r.
             HasRun r self.old block.now.plan block.now.asks result self.new) }
     {
-        crew.run_block(&mut self.engine, block)
+        executor.run_block(&mut self.engine, block)
     }
 
     /// Puts the reply to `dist` behind the text.
@@ -147,7 +161,8 @@ impl Network {
         requires not_spent { self.now.spent ≡ false }
         requires from { x < self.now.opening }
         requires to { y < self.now.opening }
-        ensures { OnOk result (GrowsBy (IsDistReply self.now.graph x y) (string_bytes text.old) (string_bytes text.new)) }
+        ensures { OnOk result
+            (GrowsBy (IsDistReply self.now.graph x y) (string_bytes text.old) (string_bytes text.new)) }
     {
         let distance = self.distance(x, y);
         put_dist(text, x, y, distance)
@@ -168,7 +183,8 @@ impl Network {
     fn put_distances(&self, text: &mut String, x: u32) -> Result<(), AllocError>
         requires not_spent { self.now.spent ≡ false }
         requires inside { x < self.now.opening }
-        ensures { OnOk result ((row : List (Option ℕ)) × AreDistances self.now.graph x row × (string_bytes text.new ≡ string_bytes text.old ++ flat_map entry_text row)) }
+        ensures { OnOk result ((row : List (Option ℕ)) × AreDistances self.now.graph x row
+            × (string_bytes text.new ≡ string_bytes text.old ++ flat_map entry_text row)) }
     {
         for y in 0..self.engine.graph().vertices() {
             let distance = self.distance(x, y);
@@ -195,7 +211,8 @@ impl Network {
         requires not_spent { self.now.spent ≡ false }
         requires from { x < self.now.opening }
         requires to { y < self.now.opening }
-        ensures { OnOk result (GrowsBy (IsPathReply self.now.graph x y) (string_bytes text.old) (string_bytes text.new)) }
+        ensures { OnOk result
+            (GrowsBy (IsPathReply self.now.graph x y) (string_bytes text.old) (string_bytes text.new)) }
     {
         write!(text, "path {x} {y}")?;
         self.put_least(text, x, y)?;
@@ -207,7 +224,8 @@ impl Network {
         requires not_spent { self.now.spent ≡ false }
         requires from { x < self.now.opening }
         requires to { y < self.now.opening }
-        ensures { OnOk result ((walk : Option (List ℕ)) × LeastIs self.now.graph x y walk × (string_bytes text.new ≡ string_bytes text.old ++ walk_text self.now.graph walk)) }
+        ensures { OnOk result ((walk : Option (List ℕ)) × LeastIs self.now.graph x y walk
+            × (string_bytes text.new ≡ string_bytes text.old ++ walk_text self.now.graph walk)) }
     {
         match self.engine.least(x, y) {
             Some(least) => put_walk(text, &least),
@@ -218,7 +236,10 @@ impl Network {
     /// Puts the reply to `stats` behind the text.
     pub fn put_stats(&self, text: &mut String) -> Result<(), AllocError>
         requires { self.now.spent ≡ false }
-        ensures { (commands : List Command) → Stands self.now commands → OnOk result (GrowsBy (IsStatsReply self.now.opening self.now.smooth commands) (string_bytes text.old) (string_bytes text.new)) }
+        ensures { (commands : List Command) → Stands self.now commands
+            → OnOk result
+            (GrowsBy (IsStatsReply self.now.opening self.now.smooth commands) (string_bytes text.old)
+            (string_bytes text.new)) }
     {
         put_stats(text, self.engine.counts())
     }
@@ -228,24 +249,33 @@ impl Network {
         requires not_spent { self.now.spent ≡ false }
         requires some { 0 < length list.now }
         requires inside { All (λ v. v < self.now.opening) list.now }
-        ensures { (commands : List Command) → Stands self.now commands → OnOk result (GrowsBy (IsAgeReply self.now.opening self.now.smooth commands list.now) (string_bytes text.old) (string_bytes text.new)) }
+        ensures { (commands : List Command) → Stands self.now commands
+            → OnOk result
+            (GrowsBy (IsAgeReply self.now.opening self.now.smooth commands list.now) (string_bytes text.old)
+            (string_bytes text.new)) }
     {
         put_age(text, list, self.engine.birth(list))
     }
 
     /// Gives the sink the certificate of the present graph and number of updates, line by line. It takes
-    /// no memory of its own, and O(n²) looks.
+    /// no memory of its own, and O(n²) looks. The network stays as it is.
     pub fn give_certificate<K: Sink>(&mut self, sink: &mut K) -> Result<(), Stop>
         requires not_spent { self.old.spent ≡ false }
-        requires few { length self.old.vertices < 2 ^ 40 }
+        requires few { length self.old.vertices < MOST_UPDATES }
         ensures gives { (text : List ℕ) × IsTextOf (version_of self.old) text
             × LinesGiven result (K.held sink.old) (K.held sink.new) (K.faults sink.old) (K.faults sink.new) text }
         ensures same { self.new ≡ self.old }
         ensures later { K.faults sink.old ≤ K.faults sink.new }
     {
-        // The graph has as many vertices as the version.
-        let _graph = self.engine.graph();
+        graph_has_all_vertices(&self.engine);
         self.engine.fill(&mut self.version);
         given(write_certificate(&self.version, sink))
     }
+}
+
+/// The graph of an engine has as many vertices as the engine.
+fn graph_has_all_vertices(engine: &Engine)
+    ensures { engine.now.graph.vertices ≡ engine.now.opening }
+{
+    let _graph = engine.graph();
 }

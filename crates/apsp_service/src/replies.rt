@@ -24,7 +24,9 @@ pub fn put_dist(text: &mut String, x: u32, y: u32, distance: Option<u64>) -> Res
 
 /// A least walk behind its weight.
 pub fn put_walk(text: &mut String, least: &Least<'_>) -> Result<(), AllocError>
-    ensures { OnOk result (string_bytes text.new ≡ string_bytes text.old ++ number_text (weight_of least.now.book.arena least.now.id) ++ codes " walk" ++ flat_map number_text (list_of least.now.book.arena least.now.id)) }
+    ensures { OnOk result (string_bytes text.new ≡ string_bytes text.old
+        ++ number_text (weight_of least.now.book.arena least.now.id) ++ codes " walk"
+        ++ flat_map number_text (list_of least.now.book.arena least.now.id)) }
 {
     write!(text, " {} walk", least.weight())?;
     for vertex in least.vertices() {

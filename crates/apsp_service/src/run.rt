@@ -2,12 +2,12 @@
 
 ghost use Rattle.std.specs.Prelude.{◌≡◌, ◌<◌, ◌≤◌, ◌+◌, ◌^◌, List, [], ℕ, length, take, Option, OnOk, IfOk, false};
 ghost use Rattle.apsp_service.specs.Session.{State, opening};
-ghost use Rattle.apsp_service.specs.Standing.{IsAt, IsSomewhere, TakesPiece};
+ghost use Rattle.apsp_service.specs.Standing.{HasStateAndContent, HasSomeStateAndContent, TakesPiece};
 ghost use Rattle.apsp_service.specs.Lawful.{IsLawful};
 ghost use Rattle.apsp_service.specs.Running.{SoFar, PieceEnds, AllEnds, RunEnds, TakeEnds};
 
 use crate::blocks::Blocks;
-use crate::crew::Crew;
+use crate::executor::Executor;
 use crate::session::Session;
 use crate::stop::Stop;
 use apsp_io::{Failed, Gate, Sink, Source};
@@ -24,21 +24,21 @@ pub const PIECE: usize = 4096;
 /// Answers the lines of the source, each as it becomes whole, and says whether one was refused.
 pub fn run<S: Source, K: Sink, R: Threads + Sync, G: Gate, B: Blocks>(
     alloc: Global,
-    crew: &Crew<'_, R, G, B>,
+    executor: &Executor<'_, R, G, B>,
     smooth: bool,
     source: &mut S,
     sink: &mut K,
 ) -> Result<bool, Stop>
-    requires runs { B.ready crew.now.blocks.now }
-    ensures ends { RunEnds (opening (B.readers crew.now.blocks.now) smooth) result
+    requires runs { B.ready executor.now.blocks.now }
+    ensures ends { RunEnds (opening (B.readers executor.now.blocks.now) smooth) result
         (S.left source.old) (S.left source.new) (K.held sink.old) (K.held sink.new)
         (S.faults source.old) (S.faults source.new) (K.faults sink.old) (K.faults sink.new) }
     ensures source_later { S.faults source.old ≤ S.faults source.new }
     ensures sink_later { K.faults sink.old ≤ K.faults sink.new }
 {
-    let mut session = Session::new(alloc, crew.readers(), smooth)?;
-    answer_all(&mut session, crew, source, sink)?;
-    session.answer_last(crew, sink)?;
+    let mut session = Session::new(alloc, executor.readers(), smooth)?;
+    answer_all(&mut session, executor, source, sink)?;
+    session.answer_last(executor, sink)?;
     session.finish(sink)?;
     Ok(session.has_refused())
 }
@@ -46,13 +46,13 @@ pub fn run<S: Source, K: Sink, R: Threads + Sync, G: Gate, B: Blocks>(
 /// Answers the lines that a newline ends.
 fn answer_all<S: Source, K: Sink, R: Threads + Sync, G: Gate, B: Blocks>(
     session: &mut Session,
-    crew: &Crew<'_, R, G, B>,
+    executor: &Executor<'_, R, G, B>,
     source: &mut S,
     sink: &mut K,
 ) -> Result<(), Stop>
-    requires blocks { session.old.readers ≡ B.readers crew.now.blocks.now }
-    requires runs { B.ready crew.now.blocks.now }
-    requires stands { IsAt session.old (opening session.old.readers session.old.smooth) [] }
+    requires blocks { session.old.readers ≡ B.readers executor.now.blocks.now }
+    requires runs { B.ready executor.now.blocks.now }
+    requires stands { HasStateAndContent session.old (opening session.old.readers session.old.smooth) [] }
     ensures ends { AllEnds (opening session.old.readers session.old.smooth) result session.new
         (S.left source.old) (S.left source.new) (K.held sink.old) (K.held sink.new)
         (S.faults source.old) (S.faults source.new) (K.faults sink.old) (K.faults sink.new) }
@@ -64,7 +64,7 @@ fn answer_all<S: Source, K: Sink, R: Threads + Sync, G: Gate, B: Blocks>(
     let mut buffer = [0; PIECE];
     let mut taken = 0;
     loop {
-        let count = answer_piece(session, crew, taken, &mut buffer, source, sink)?;
+        let count = answer_piece(session, executor, taken, &mut buffer, source, sink)?;
         if count == 0 {
             return Ok(());
         }
@@ -76,7 +76,7 @@ fn answer_all<S: Source, K: Sink, R: Threads + Sync, G: Gate, B: Blocks>(
 /// before. Says how many bytes it has, 0 at the end of the input.
 fn answer_piece<S: Source, K: Sink, R: Threads + Sync, G: Gate, B: Blocks>(
     session: &mut Session,
-    crew: &Crew<'_, R, G, B>,
+    executor: &Executor<'_, R, G, B>,
     taken: usize,
     buffer: &mut [u8],
     source: &mut S,
@@ -84,9 +84,9 @@ fn answer_piece<S: Source, K: Sink, R: Threads + Sync, G: Gate, B: Blocks>(
 ) -> Result<usize, Stop>
     requires few { taken ≤ MOST_INPUT }
     requires lines { session.old.lines ≤ taken }
-    requires blocks { session.old.readers ≡ B.readers crew.now.blocks.now }
-    requires runs { B.ready crew.now.blocks.now }
-    requires stands { IsSomewhere session.old }
+    requires blocks { session.old.readers ≡ B.readers executor.now.blocks.now }
+    requires runs { B.ready executor.now.blocks.now }
+    requires stands { HasSomeStateAndContent session.old }
     requires opened { session.old.cutter.whole ≡ false }
     requires room { length buffer.old ≡ PIECE }
     ensures ends { (start : State) (left held : Option (List ℕ)) (bytes : List ℕ) → IsLawful start
@@ -104,41 +104,44 @@ fn answer_piece<S: Source, K: Sink, R: Threads + Sync, G: Gate, B: Blocks>(
     let count = take(source, buffer, room)?;
     if taken + count > MOST_INPUT {
         // The last byte is one too many, and is not looked at.
-        answer_front(session, crew, buffer, count - 1, sink)?;
+        answer_front(session, executor, buffer, count - 1, sink)?;
         return Err(Stop::Limit);
     }
-    answer_front(session, crew, buffer, count, sink)?;
+    answer_front(session, executor, buffer, count, sink)?;
     Ok(count)
 }
 
 /// Answers the lines that the front of the buffer makes whole.
 fn answer_front<K: Sink, R: Threads + Sync, G: Gate, B: Blocks>(
     session: &mut Session,
-    crew: &Crew<'_, R, G, B>,
+    executor: &Executor<'_, R, G, B>,
     buffer: &[u8],
     count: usize,
     sink: &mut K,
 ) -> Result<(), Stop>
     requires inside { count ≤ length buffer.now }
-    requires blocks { session.old.readers ≡ B.readers crew.now.blocks.now }
-    requires runs { B.ready crew.now.blocks.now }
-    requires stands { IsSomewhere session.old }
+    requires blocks { session.old.readers ≡ B.readers executor.now.blocks.now }
+    requires runs { B.ready executor.now.blocks.now }
+    requires stands { HasSomeStateAndContent session.old }
     requires opened { session.old.cutter.whole ≡ false }
     requires few { session.old.lines + count < 2 ^ 32 }
-    ensures takes { (s : State) (content : List ℕ) → IsAt session.old s content → TakesPiece result session.new (K.held sink.old) (K.held sink.new) (K.faults sink.old) (K.faults sink.new) s content (take count buffer.now) }
+    ensures takes { (s : State) (content : List ℕ) → HasStateAndContent session.old s content
+        → TakesPiece result session.new (K.held sink.old) (K.held sink.new) (K.faults sink.old)
+        (K.faults sink.new) s content (take count buffer.now) }
     ensures readers { session.new.readers ≡ session.old.readers }
     ensures lines { OnOk result (session.new.lines ≤ session.old.lines + count) }
     ensures opened { OnOk result (session.new.cutter.whole ≡ false) }
     ensures later { K.faults sink.old ≤ K.faults sink.new }
 {
-    session.answer_piece(crew, &buffer[..count], sink)
+    session.answer_piece(executor, &buffer[..count], sink)
 }
 
 /// Fills the front of the buffer, with as many bytes as there is room for or fewer.
 pub fn take<S: Source>(source: &mut S, buffer: &mut [u8], room: usize) -> Result<usize, Stop>
     requires some { 0 < room }
     requires inside { room ≤ length buffer.old }
-    ensures ends { TakeEnds result (S.left source.old) (S.left source.new) (S.faults source.old) (S.faults source.new) room buffer.new }
+    ensures ends { TakeEnds result (S.left source.old) (S.left source.new) (S.faults source.old)
+        (S.faults source.new) room buffer.new }
     ensures later { S.faults source.old ≤ S.faults source.new }
 {
     match source.take(&mut buffer[..room]) {

@@ -1,24 +1,24 @@
 //! One session: the lines of an input, answered as they become whole.
 
-ghost use Rattle.std.specs.Prelude.{◌≡◌, Option, Some, None, ◌<◌, ◌≤◌, ◌+◌, ◌^◌, [], ◌∷◌, ◌++◌, List, ℕ, length, take, IfOk, OnOk, IsTrue, ◌↔◌, false, string_bytes};
+ghost use Rattle.std.specs.Prelude.{◌≡◌, Option, Some, None, ◌<◌, ◌≤◌, ◌+◌, ◌^◌, [], ◌∷◌, List, ℕ, length, take, IfOk, OnOk, IsTrue, ◌↔◌, false, string_bytes};
 ghost use Rattle.script_reader.specs.Answer.{IsAnswer, Fits};
-ghost use Rattle.apsp_service.specs.Session.{State, opening, context_at, context_of, accepted, counted, HasReply, HasBlockReply, LineHasReply, after_line, after_lines, ending_of, has_refused};
+ghost use Rattle.apsp_service.specs.Session.{State, opening, context_at, context_of, accepted, counted, HasReply, HasBlockReply, after_line, after_lines, ending_of, has_refused};
 ghost use Rattle.script_reader.specs.Meaning.{line_of};
 ghost use Rattle.script_reader.specs.Input.{line_if_some};
-ghost use Rattle.apsp_service.specs.Giving.{HasInside, IsNetworkOf, IsReady, GrowsBy, TextGiven, LinesGiven, IsRepliedBy, CertificateGiven, vertices_in, GivingEnds};
+ghost use Rattle.apsp_service.specs.Giving.{HasInside, CanBeUpdated, TextGiven, IsRepliedBy, CertificateGiven, vertices_in, GivingEnds};
+ghost use Rattle.apsp_service.specs.Growing.{GrowsBy, LinesGiven};
 ghost use Rattle.graph_store.specs.Plan.{hi_of};
 ghost use Rattle.history_engine.specs.Seen.{Seen};
 ghost use Rattle.std.specs.List.{flat_map};
 ghost use Rattle.apsp_service.specs.Blocks.{last_graph};
 ghost use Rattle.apsp_service.specs.Replies.{answer_text};
-ghost use Rattle.apsp_service.specs.Standing.{HasState, IsAt, IsSomewhere, TakesFront, TakesPiece};
+ghost use Rattle.apsp_service.specs.Standing.{HasState, HasStateAndContent, HasSomeStateAndContent, TakesFront, TakesPiece};
 ghost use Rattle.script_reader.specs.Cutter.{StandsFor};
-ghost use Rattle.apsp_model.specs.declared.TheConstants.{MOST_VERTICES};
-ghost use Rattle.apsp_service.specs.Begun.{lines_from, rest_from};
+ghost use Rattle.apsp_model.specs.declared.TheConstants.{MOST_VERTICES, MOST_UPDATES};
 
 use crate::block::OpenBlock;
 use crate::blocks::Blocks;
-use crate::crew::Crew;
+use crate::executor::Executor;
 use crate::network::Network;
 use crate::replies::{put_answer, put_error};
 use crate::stop::Stop;
@@ -107,7 +107,8 @@ impl Session {
     fn read(&self) -> Result<Line, LineError>
         requires few { self.now.lines < 2 ^ 32 }
         requires stands { (s : State) × HasState self.now s }
-        ensures reading { (s : State) (content : List ℕ) → HasState self.now s → StandsFor self.now.cutter content → IsAnswer (line_of (context_of s) content) result }
+        ensures reading { (s : State) (content : List ℕ) → HasState self.now s → StandsFor self.now.cutter content
+            → IsAnswer (line_of (context_of s) content) result }
         ensures fits { IfOk result (Fits (context_at (vertices_in self.now.network) self.now.readers self.now.block)) }
     {
         if self.cutter.too_long() {
@@ -120,16 +121,16 @@ impl Session {
     }
 
     /// Does what an accepted line other than `cert` and `end` asks for, and puts the reply behind the text.
-    fn obey<R: Threads + Sync, G: Gate, B: Blocks>(
+    fn execute<R: Threads + Sync, G: Gate, B: Blocks>(
         &mut self,
-        crew: &Crew<'_, R, G, B>,
+        executor: &Executor<'_, R, G, B>,
         line: Line,
     ) -> Result<(), AllocError>
         requires fits { Fits (context_at (vertices_in self.old.network) self.old.readers self.old.block) line }
         requires text_alone { line ≡ Line.Cert → ⊥ }
         requires goes_on { line ≡ Line.End → ⊥ }
-        requires ready { IsReady self.old.network }
-        requires stands { (s : State) × HasInside self.old.network self.old.block s × (s.lines < 2 ^ 40) }
+        requires ready { CanBeUpdated self.old.network }
+        requires stands { (s : State) × HasInside self.old.network self.old.block s × (s.lines < MOST_UPDATES) }
         ensures stands { (s : State) → HasInside self.old.network self.old.block s
             → self.old.smooth ≡ s.smooth → self.old.readers ≡ s.readers
             → OnOk result (HasInside self.new.network self.new.block (accepted (counted s) line)) }
@@ -157,21 +158,21 @@ impl Session {
             return Ok(());
         }
         match &mut self.block {
-            Some(block) => obey_in_block(block, line),
-            None => obey_in(network, crew, &mut self.text, line),
+            Some(block) => execute_in_block(block, line),
+            None => execute_outside_block(network, executor, &mut self.text, line),
         }
     }
 
     /// Runs the block that is open, if one is, and gives its answers.
     fn end_block<R: Threads + Sync, G: Gate, B: Blocks>(
         &mut self,
-        crew: &Crew<'_, R, G, B>,
+        executor: &Executor<'_, R, G, B>,
     ) -> Result<BlockAnswers, AllocError>
-        requires blocks { self.old.readers ≡ B.readers crew.now.blocks.now }
-        requires runs { B.ready crew.now.blocks.now }
-        requires ready { IsReady self.old.network }
+        requires blocks { self.old.readers ≡ B.readers executor.now.blocks.now }
+        requires runs { B.ready executor.now.blocks.now }
+        requires ready { CanBeUpdated self.old.network }
         requires stands { (s : State) × HasInside self.old.network self.old.block s
-            × (s.readers ≡ self.old.readers) × (s.lines < 2 ^ 40) }
+            × (s.readers ≡ self.old.readers) × (s.lines < MOST_UPDATES) }
         ensures stands { (s : State) → HasInside self.old.network self.old.block s
             → IfOk result (λ _. HasInside self.new.network self.new.block (accepted (counted s) Line.End)) }
         ensures reply { (s : State) → HasInside self.old.network self.old.block s
@@ -189,24 +190,24 @@ impl Session {
         let Some(network) = &mut self.network else {
             return Ok(BlockAnswers::none(self.alloc));
         };
-        network.run_block(crew, &block)
+        network.run_block(executor, &block)
     }
 
     /// Answers the line that is begun, and says where its reply is.
     fn answer<R: Threads + Sync, G: Gate, B: Blocks>(
         &mut self,
-        crew: &Crew<'_, R, G, B>,
+        executor: &Executor<'_, R, G, B>,
     ) -> Result<Reply, AllocError>
         requires few { self.old.lines + 1 < 2 ^ 32 }
-        requires blocks { self.old.readers ≡ B.readers crew.now.blocks.now }
-        requires runs { B.ready crew.now.blocks.now }
+        requires blocks { self.old.readers ≡ B.readers executor.now.blocks.now }
+        requires runs { B.ready executor.now.blocks.now }
         requires stands { (s : State) × HasState self.old s }
         ensures stands { (s : State) (content : List ℕ) → HasState self.old s → StandsFor self.old.cutter content
             → IfOk result (λ _. HasState self.new (after_line s content)) }
         ensures reply { (s : State) (content : List ℕ) → HasState self.old s → StandsFor self.old.cutter content
             → IfOk result (λ reply. IsRepliedBy reply s content (string_bytes self.new.text)) }
         ensures certificate { IfOk result (λ reply. reply ≡ Reply.Certificate
-            → IsReady self.new.network × (0 < vertices_in self.new.network)) }
+            → CanBeUpdated self.new.network × (0 < vertices_in self.new.network)) }
         ensures cutter { self.new.cutter ≡ self.old.cutter }
         ensures readers { self.new.readers ≡ self.old.readers }
         ensures lines { self.new.lines ≡ self.old.lines + 1 }
@@ -217,11 +218,11 @@ impl Session {
         match reading {
             Ok(Line::Cert) => Ok(Reply::Certificate),
             Ok(Line::End) => {
-                let answers = self.end_block(crew)?;
+                let answers = self.end_block(executor)?;
                 Ok(Reply::Answers(answers))
             }
             Ok(line) => {
-                self.obey(crew, line)?;
+                self.execute(executor, line)?;
                 Ok(Reply::Text)
             }
             Err(LineError::Refused { code, place }) => {
@@ -236,20 +237,23 @@ impl Session {
     /// Answers the line that is begun, and gives the sink its reply, each line of it by itself.
     fn answer_line<K: Sink, R: Threads + Sync, G: Gate, B: Blocks>(
         &mut self,
-        crew: &Crew<'_, R, G, B>,
+        executor: &Executor<'_, R, G, B>,
         sink: &mut K,
     ) -> Result<(), Stop>
         requires few { self.old.lines + 1 < 2 ^ 32 }
-        requires blocks { self.old.readers ≡ B.readers crew.now.blocks.now }
-        requires runs { B.ready crew.now.blocks.now }
+        requires blocks { self.old.readers ≡ B.readers executor.now.blocks.now }
+        requires runs { B.ready executor.now.blocks.now }
         requires stands { (s : State) × HasState self.old s }
-        ensures stands { (s : State) (content : List ℕ) → HasState self.old s → StandsFor self.old.cutter content → OnOk result (HasState self.new (after_line s content)) }
-        ensures gives { (s : State) (content : List ℕ) → HasState self.old s → StandsFor self.old.cutter content → GivingEnds result (K.held sink.old) (K.held sink.new) (K.faults sink.old) (K.faults sink.new) s (content ∷ []) }
+        ensures stands { (s : State) (content : List ℕ) → HasState self.old s → StandsFor self.old.cutter content
+            → OnOk result (HasState self.new (after_line s content)) }
+        ensures gives { (s : State) (content : List ℕ) → HasState self.old s → StandsFor self.old.cutter content
+            → GivingEnds result (K.held sink.old) (K.held sink.new) (K.faults sink.old) (K.faults sink.new) s
+            (content ∷ []) }
         ensures readers { self.new.readers ≡ self.old.readers }
         ensures lines { self.new.lines ≡ self.old.lines + 1 }
         ensures later { K.faults sink.old ≤ K.faults sink.new }
     {
-        match self.answer(crew)? {
+        match self.answer(executor)? {
             Reply::Text => give(sink, self.text.as_str()),
             Reply::Certificate => self.give_certificate(sink),
             Reply::Answers(given) => give_answers(sink, &mut self.text, given.answers()),
@@ -258,7 +262,7 @@ impl Session {
 
     /// Gives the sink the certificate of the network, line by line.
     fn give_certificate<K: Sink>(&mut self, sink: &mut K) -> Result<(), Stop>
-        requires ready { IsReady self.old.network }
+        requires ready { CanBeUpdated self.old.network }
         requires some { 0 < vertices_in self.old.network }
         ensures stands { (s : State) → HasState self.old s → HasState self.new s }
         ensures gives { (s : State) → HasState self.old s
@@ -277,19 +281,21 @@ impl Session {
     /// whole then. Says how many bytes it took.
     fn answer_front<K: Sink, R: Threads + Sync, G: Gate, B: Blocks>(
         &mut self,
-        crew: &Crew<'_, R, G, B>,
+        executor: &Executor<'_, R, G, B>,
         piece: &[u8],
         sink: &mut K,
     ) -> Result<usize, Stop>
-        requires blocks { self.old.readers ≡ B.readers crew.now.blocks.now }
-        requires runs { B.ready crew.now.blocks.now }
-        requires stands { IsSomewhere self.old }
+        requires blocks { self.old.readers ≡ B.readers executor.now.blocks.now }
+        requires runs { B.ready executor.now.blocks.now }
+        requires stands { HasSomeStateAndContent self.old }
         requires some { 0 < length piece.now }
         requires opened { self.old.cutter.whole ≡ false }
         requires few { self.old.lines + 1 < 2 ^ 32 }
         ensures used { IfOk result (λ used. 0 < used) }
         ensures inside { IfOk result (λ used. used ≤ length piece.now) }
-        ensures takes { (s : State) (content : List ℕ) → IsAt self.old s content → TakesFront result self.new (K.held sink.old) (K.held sink.new) (K.faults sink.old) (K.faults sink.new) s content piece.now }
+        ensures takes { (s : State) (content : List ℕ) → HasStateAndContent self.old s content
+            → TakesFront result self.new (K.held sink.old) (K.held sink.new) (K.faults sink.old)
+            (K.faults sink.new) s content piece.now }
         ensures lines { IfOk result (λ used. self.new.lines ≤ self.old.lines + used) }
         ensures opened { OnOk result (self.new.cutter.whole ≡ false) }
         ensures readers { self.new.readers ≡ self.old.readers }
@@ -297,7 +303,7 @@ impl Session {
     {
         let cut = self.cutter.feed(piece);
         if cut.whole {
-            self.answer_line(crew, sink)?;
+            self.answer_line(executor, sink)?;
             self.cutter.clear();
         }
         Ok(cut.used)
@@ -306,16 +312,18 @@ impl Session {
     /// Takes a piece of the input, and answers each line that is whole then.
     pub fn answer_piece<K: Sink, R: Threads + Sync, G: Gate, B: Blocks>(
         &mut self,
-        crew: &Crew<'_, R, G, B>,
+        executor: &Executor<'_, R, G, B>,
         piece: &[u8],
         sink: &mut K,
     ) -> Result<(), Stop>
-        requires blocks { self.old.readers ≡ B.readers crew.now.blocks.now }
-        requires runs { B.ready crew.now.blocks.now }
-        requires stands { IsSomewhere self.old }
+        requires blocks { self.old.readers ≡ B.readers executor.now.blocks.now }
+        requires runs { B.ready executor.now.blocks.now }
+        requires stands { HasSomeStateAndContent self.old }
         requires opened { self.old.cutter.whole ≡ false }
         requires few { self.old.lines + length piece.now < 2 ^ 32 }
-        ensures takes { (s : State) (content : List ℕ) → IsAt self.old s content → TakesPiece result self.new (K.held sink.old) (K.held sink.new) (K.faults sink.old) (K.faults sink.new) s content piece.now }
+        ensures takes { (s : State) (content : List ℕ) → HasStateAndContent self.old s content
+            → TakesPiece result self.new (K.held sink.old) (K.held sink.new) (K.faults sink.old)
+            (K.faults sink.new) s content piece.now }
         ensures lines { OnOk result (self.new.lines ≤ self.old.lines + length piece.now) }
         ensures opened { OnOk result (self.new.cutter.whole ≡ false) }
         ensures readers { self.new.readers ≡ self.old.readers }
@@ -323,7 +331,7 @@ impl Session {
     {
         let mut rest = piece;
         while !rest.is_empty() {
-            let used = self.answer_front(crew, rest, sink)?;
+            let used = self.answer_front(executor, rest, sink)?;
             rest = &rest[used..];
         }
         Ok(())
@@ -332,15 +340,18 @@ impl Session {
     /// Answers what stands behind the last newline of the input, where that is not empty.
     pub fn answer_last<K: Sink, R: Threads + Sync, G: Gate, B: Blocks>(
         &mut self,
-        crew: &Crew<'_, R, G, B>,
+        executor: &Executor<'_, R, G, B>,
         sink: &mut K,
     ) -> Result<(), Stop>
         requires few { self.old.lines + 1 < 2 ^ 32 }
-        requires blocks { self.old.readers ≡ B.readers crew.now.blocks.now }
-        requires runs { B.ready crew.now.blocks.now }
-        requires stands { IsSomewhere self.old }
-        ensures gives { (s : State) (content : List ℕ) → IsAt self.old s content → GivingEnds result (K.held sink.old) (K.held sink.new) (K.faults sink.old) (K.faults sink.new) s (line_if_some content) }
-        ensures stands { (s : State) (content : List ℕ) → IsAt self.old s content → OnOk result (HasState self.new (after_lines s (line_if_some content))) }
+        requires blocks { self.old.readers ≡ B.readers executor.now.blocks.now }
+        requires runs { B.ready executor.now.blocks.now }
+        requires stands { HasSomeStateAndContent self.old }
+        ensures gives { (s : State) (content : List ℕ) → HasStateAndContent self.old s content
+            → GivingEnds result (K.held sink.old) (K.held sink.new) (K.faults sink.old) (K.faults sink.new) s
+            (line_if_some content) }
+        ensures stands { (s : State) (content : List ℕ) → HasStateAndContent self.old s content
+            → OnOk result (HasState self.new (after_lines s (line_if_some content))) }
         ensures lines { OnOk result (self.new.lines ≤ self.old.lines + 1) }
         ensures readers { self.new.readers ≡ self.old.readers }
         ensures later { K.faults sink.old ≤ K.faults sink.new }
@@ -348,7 +359,7 @@ impl Session {
         if self.is_line_empty() {
             Ok(())
         } else {
-            self.answer_line(crew, sink)
+            self.answer_line(executor, sink)
         }
     }
 
@@ -363,7 +374,8 @@ impl Session {
     pub fn finish<K: Sink>(&mut self, sink: &mut K) -> Result<(), Stop>
         requires few { self.old.lines + 1 < 2 ^ 32 }
         ensures gives { (s : State) → HasState self.old s
-            → LinesGiven result (K.held sink.old) (K.held sink.new) (K.faults sink.old) (K.faults sink.new) (ending_of s) }
+            → LinesGiven result (K.held sink.old) (K.held sink.new) (K.faults sink.old) (K.faults sink.new)
+            (ending_of s) }
         ensures kept { (s : State) → HasState self.old s → HasState self.new s }
         ensures later { K.faults sink.old ≤ K.faults sink.new }
     {
@@ -399,7 +411,8 @@ fn give_answers<K: Sink>(sink: &mut K, text: &mut String, answers: &[Answer]) ->
 
 /// Gives a reply, where there is one.
 pub fn give<K: Sink>(sink: &mut K, text: &str) -> Result<(), Stop>
-    ensures given { TextGiven result (K.held sink.old) (K.held sink.new) (K.faults sink.old) (K.faults sink.new) text.now }
+    ensures given { TextGiven result (K.held sink.old) (K.held sink.new) (K.faults sink.old)
+        (K.faults sink.new) text.now }
     ensures later { K.faults sink.old ≤ K.faults sink.new }
 {
     if text.is_empty() {
@@ -414,9 +427,9 @@ pub fn give<K: Sink>(sink: &mut K, text: &str) -> Result<(), Stop>
 
 /// Does what a line asks for outside a block that is neither `cert` nor begins a graph or a block, and puts
 /// the reply behind the text.
-fn obey_in<R: Threads + Sync, G: Gate, B: Blocks>(
+fn execute_outside_block<R: Threads + Sync, G: Gate, B: Blocks>(
     network: &mut Network,
-    crew: &Crew<'_, R, G, B>,
+    executor: &Executor<'_, R, G, B>,
     text: &mut String,
     line: Line,
 ) -> Result<(), AllocError>
@@ -425,7 +438,7 @@ fn obey_in<R: Threads + Sync, G: Gate, B: Blocks>(
     requires text_alone { line ≡ Line.Cert → ⊥ }
     requires no_begin { line ≡ Line.Block → ⊥ }
     requires no_end { line ≡ Line.End → ⊥ }
-    requires ready { IsReady (Some network.old) }
+    requires ready { CanBeUpdated (Some network.old) }
     ensures stands { (s : State) → HasInside (Some network.old) None s
         → OnOk result (HasInside (Some network.new) None (accepted (counted s) line)) }
     ensures reply { (s : State) → HasInside (Some network.old) None s
@@ -433,9 +446,9 @@ fn obey_in<R: Threads + Sync, G: Gate, B: Blocks>(
         (string_bytes text.old) (string_bytes text.new)) }
 {
     match line {
-        Line::Star(star) => network.apply(crew, &star),
-        Line::Edge { u, v, w } => network.put_edge(crew, u, v, Some(w)),
-        Line::Cut { u, v } => network.put_edge(crew, u, v, None),
+        Line::Star(star) => network.apply(executor, &star),
+        Line::Edge { u, v, w } => network.put_edge(executor, u, v, Some(w)),
+        Line::Cut { u, v } => network.put_edge(executor, u, v, None),
         Line::Dist { x, y } => network.put_dist(text, x, y),
         Line::Path { x, y } => network.put_path(text, x, y),
         Line::Row { x } => network.put_row(text, x),
@@ -451,10 +464,10 @@ fn obey_in<R: Threads + Sync, G: Gate, B: Blocks>(
 }
 
 /// Does what a line asks for in a block other than its end. There it has no reply.
-fn obey_in_block(block: &mut OpenBlock, line: Line) -> Result<(), AllocError>
+fn execute_in_block(block: &mut OpenBlock, line: Line) -> Result<(), AllocError>
     requires fits { (readers : Option ℕ)
         × Fits (context_at (last_graph block.old.plan).vertices readers (Some block.old)) line }
-    requires few { hi_of block.old.plan < 2 ^ 40 }
+    requires few { hi_of block.old.plan < MOST_UPDATES }
     requires goes_on { line ≡ Line.End → ⊥ }
     ensures { (e : Seen) (s : State) → HasInside (Some e) (Some block.old) s
         → OnOk result (HasInside (Some e) (Some block.new) (accepted (counted s) line)) }

@@ -3,25 +3,14 @@
 ghost use Rattle.std.specs.Prelude.{◌≡◌, ◌≤◌, IfSome, map, string_bytes};
 ghost use Rattle.apsp_service.specs.Words.{HasWorkers, MayWork, mode_of, run_of, live_of, check_of, load_of, drawn_of, no_options, options_from, with_smooth, with_number, number_in, word_number};
 
+use apsp_model::{LEAST_SLOTS, MOST_READERS, MOST_SLOTS, MOST_WORKERS};
 use script_reader::number_of;
-
-/// The most workers of a mode.
-pub const MOST_WORKERS: u32 = 64;
 
 /// The workers of a mode whose words do not say how many.
 pub const WORKERS: u32 = 4;
 
-/// The most readers of a block.
-pub const MOST_READERS: u32 = 32;
-
 /// The readers of a block where the words do not say how many.
 pub const READERS: u32 = 2;
-
-/// The least slots that versions stand in.
-pub const LEAST_SLOTS: u32 = 2;
-
-/// The most slots that versions stand in.
-pub const MOST_SLOTS: u32 = 64;
 
 /// The slots where the words do not say how many.
 pub const SLOTS: u32 = 4;

@@ -1,11 +1,13 @@
-//! Who makes the updates.
+//! What updates are made with and blocks are run by.
 
-ghost use Rattle.std.specs.Prelude.{◌≡◌, ◌<◌, ◌^◌, IsSome, OnOk, length};
+ghost use Rattle.std.specs.Prelude.{◌≡◌, ◌<◌, IsSome, OnErr, OnOk, length};
 ghost use Rattle.std.specs.Option.{ForSome};
+ghost use Rattle.apsp_model.specs.declared.TheConstants.{MOST_UPDATES};
 ghost use Rattle.block_run.specs.Run.{CanRun, HasRun};
 ghost use Rattle.apsp_model.specs.Command.{Update};
-ghost use Rattle.apsp_service.specs.Words.{IsWorkerCount};
+ghost use Rattle.apsp_model.specs.Limits.{IsWorkerCount};
 ghost use Rattle.history_engine.specs.Advance.{Advance};
+ghost use Rattle.history_engine.specs.Answers.{IsSpentBy};
 
 use crate::block::OpenBlock;
 use crate::blocks::Blocks;
@@ -17,15 +19,15 @@ use std::alloc::AllocError;
 use std::marker::{Model, Sync};
 use std::thread::Threads;
 
-/// How many workers make an update: a number that there may be.
+/// A number of workers that there may be.
 #[derive(Drop)]
-struct Workers {
+pub struct WorkerCount {
     count: u32,
 }
 
-impl Model for Workers {
+impl Model for WorkerCount {
     ghost use Rattle.std.specs.Prelude.{ℕ};
-    ghost use Rattle.apsp_service.specs.Words.{IsWorkerCount};
+    ghost use Rattle.apsp_model.specs.Limits.{IsWorkerCount};
 
     ghost Value = { ℕ };
 
@@ -34,15 +36,17 @@ impl Model for Workers {
     ghost invariant = { λ w. IsWorkerCount w.count };
 }
 
-impl Workers {
-    fn new(count: u32) -> Workers
+impl WorkerCount {
+    /// So many workers.
+    pub fn new(count: u32) -> WorkerCount
         requires { IsWorkerCount count }
         ensures { result ≡ count }
     {
-        Workers { count }
+        WorkerCount { count }
     }
 
-    fn count(&self) -> u32
+    /// How many workers these are.
+    pub fn count(&self) -> u32
         ensures same { result ≡ self.now }
         ensures inside { IsWorkerCount result }
     {
@@ -50,35 +54,38 @@ impl Workers {
     }
 }
 
-/// What updates are made with: what starts workers, how many of them, and the gate that they pass.
+/// What updates are made with: what starts workers, how many of them, and the gate that they pass; and
+/// who runs blocks.
 #[derive(Drop)]
-pub struct Crew<'a, R, G, B> {
-    rt: &'a R,
-    workers: Workers,
-    gate: &'a G,
-    blocks: &'a B,
+pub struct Executor<'a, R, G, B> {
+    pub rt: &'a R,
+    pub workers: WorkerCount,
+    pub gate: &'a G,
+    pub blocks: &'a B,
 }
 
-impl<'a, R: Threads + Sync, G: Gate, B: Blocks> Crew<'a, R, G, B> {
-    /// So many workers.
-    pub fn new(rt: &'a R, workers: u32, gate: &'a G, blocks: &'a B) -> Crew<'a, R, G, B>
+impl<'a, R: Threads + Sync, G: Gate, B: Blocks> Executor<'a, R, G, B> {
+    /// With so many workers.
+    pub fn new(rt: &'a R, workers: u32, gate: &'a G, blocks: &'a B) -> Executor<'a, R, G, B>
         requires workers { IsWorkerCount workers }
         ensures workers { result.workers ≡ workers }
         ensures blocks { result.blocks.now ≡ blocks.now }
     {
-        Crew {
+        Executor {
             rt,
-            workers: Workers::new(workers),
+            workers: WorkerCount::new(workers),
             gate,
             blocks,
         }
     }
 
-    /// Makes an update of an engine that is not spent.
+    /// Makes an update. Where memory ran out, now or in an earlier update, the engine is spent, and has the
+    /// graph and the counts from before.
     pub fn update(&self, engine: &mut Engine, star: &Star) -> Result<(), AllocError>
         requires same { star.now.vertices ≡ engine.old.opening }
-        requires few { length engine.old.vertices < 2 ^ 40 }
+        requires few { length engine.old.vertices < MOST_UPDATES }
         ensures advance { OnOk result (Advance engine.old (Update star.now) engine.new) }
+        ensures spent { OnErr result (IsSpentBy engine.old engine.new) }
         ensures same { engine.new.opening ≡ engine.old.opening }
     {
         match engine.star(self.rt, star, self.workers.count(), self.gate) {

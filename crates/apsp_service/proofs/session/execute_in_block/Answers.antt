@@ -1,7 +1,7 @@
 use Rattle.std.specs.Prelude.{Some, None}
 use Rattle.script_reader.specs.declared.Line.TheVariants as line
 use Rattle.apsp_service.proofs.Standing.{updated_inside, edge_inside, asked_inside, counted_inside, lawful_inside}
-use Rattle.apsp_service.proofs.session.obey_in_block.Goals as goal
+use Rattle.apsp_service.proofs.session.execute_in_block.Goals as goal
 
 pub returns-in-Star : goal.returns-in-Star
 returns-in-Star c = λ e s is.

@@ -1,12 +1,12 @@
 use Rattle.std.proofs.Common.{rules, [], refl, sym, append-nil}
 use Rattle.apsp_service.proofs.Standing.{inside_as, block_vertices, fits_in, room_in, silent_inside, grows_by_none, begun_when}
-use Rattle.apsp_service.proofs.session.Session.obey.Goals as goal
+use Rattle.apsp_service.proofs.session.Session.execute.Goals as goal
 
 pub returns-in-Vertices-clause-reply : goal.returns-in-Vertices-clause-reply
 returns-in-Vertices-clause-reply g c = λ s has. rw c.in-Vertices.is ([], refl, sym (append-nil _))
 
-pub obey_in_block-requires : goal.obey_in_block-requires
-obey_in_block-requires g c =
+pub execute_in_block-requires : goal.execute_in_block-requires
+execute_in_block-requires g c =
     let was = c.requires.stands in
     let same = block_vertices c.args.self.now.network c.args.self.now.block c.in-Some.network c.in-Some-block.block was.0 (search rules) (search rules) was.1 in record {
       fits = (c.args.self.now.readers, fits_in c.args.self.now.network c.args.self.now.block c.args.self.now.readers c.in-Some.network c.in-Some-block.block c.args.line (search rules) (search rules) same c.requires.fits);
@@ -20,7 +20,7 @@ returns-in-Some-block g c =
     let same = block_vertices c.args.self.now.network c.args.self.now.block c.in-Some.network c.in-Some-block.block was.0 (search rules) (search rules) was.1 in
     let fits = fits_in c.args.self.now.network c.args.self.now.block c.args.self.now.readers c.in-Some.network c.in-Some-block.block c.args.line (search rules) (search rules) same c.requires.fits in record {
       stands = λ s h smooth readers.
-          c.obey_in_block.ensures c.in-Some.network s (inside_as c.args.self.now.network c.args.self.now.block c.in-Some.network c.in-Some-block.block s (search rules) (search rules) h);
+          c.execute_in_block.ensures c.in-Some.network s (inside_as c.args.self.now.network c.args.self.now.block c.in-Some.network c.in-Some-block.block s (search rules) (search rules) h);
       reply = λ s h. grows_by_none _ _ _ (silent_inside _ s.vertices s.smooth s.commands c.args.self.now.readers c.in-Some-block.block c.args.line fits);
       cutter = refl;
       smooth = refl;
