@@ -137,6 +137,11 @@ def the_reading_list_is_that_of_the_sources(_program):
     same((done.returncode, done.stderr), (0, ""), "CONTRIBUTING.md")
 
 
+def the_picture_is_that_of_the_crates(_program):
+    done = run([sys.executable, "-B", os.path.join(HERE, "crate_graph.py"), "--check"])
+    same((done.returncode, done.stderr), (0, ""), "docs/ARCHITECTURE.md")
+
+
 def wrong_lines():
     """The rows of FORMATS that have a wrong line: the code, the mode, the script, the line, its reply and what is expected."""
     row = re.compile(r"^\| (\d+) \| (.*) \| `(line .*)` \| (.*) \|$", re.M)
@@ -270,6 +275,7 @@ CHECKS = [
     a_build_that_fails_says_where_the_log_is,
     the_manual_has_the_usage,
     the_reading_list_is_that_of_the_sources,
+    the_picture_is_that_of_the_crates,
     each_code_has_its_wrong_line,
     explain_says_what_is_expected,
     commands_of_the_documents,
