@@ -12,3 +12,4 @@ pub mod Counts
 pub mod Stated
 pub mod Paths
 pub mod Settled
+pub mod Totals

@@ -1,4 +1,13 @@
 -- Cleanup of paths that are local in a graph leaves what settling starts from.
+--
+-- Cleanup forgets every kept path with an edge that passes v. What is left avoids v, with its weight, its mark and its
+-- birth, and is what is local in the graph without the edges at v.
+--
+-- Cleanup forgets every kept path with an edge that passes v. What is left avoids v, with its weight, its mark and its
+-- birth, and is what is local in the graph without the edges at v.
+--
+-- Cleanup forgets every kept path with an edge that passes v. What is left avoids v, with its weight, its mark and its
+-- birth, and is what is local in the graph without the edges at v.
 use Rattle.std.specs.Prelude.{◌≡◌, ℕ, ◌+◌, ◌<◌, ◌⊎◌, false, List, [], ◌∷◌, ◌++◌, length, refl, unwrap_or, Contains}
 use Rattle.std.proofs.Common.{sym, ◌∙◌, ap, subst, arith, inl, inr}
 use Rattle.std.proofs.lemmas.Bool.{cases_lt}

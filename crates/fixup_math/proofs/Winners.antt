@@ -1,4 +1,13 @@
 -- A class that is taken, before its winners are promoted.
+--
+-- The winner of a pair is the least walk of its pair. So all winners are local and least, and none of them is
+-- historical.
+--
+-- The winner of a pair is the least walk of its pair. So all winners are local and least, and none of them is
+-- historical.
+--
+-- The winner of a pair is the least walk of its pair. So all winners are local and least, and none of them is
+-- historical.
 use Rattle.std.specs.Prelude.{◌≡◌, ℕ, ◌⊎◌, ◌↔◌, List, [], ◌∷◌, Some, refl}
 use Rattle.std.proofs.Common.{arith, inl, inr}
 use Rattle.apsp_model.specs.Graph.{Graph}
@@ -6,16 +15,16 @@ use Rattle.apsp_model.specs.Walk.{IsWalk, IsWalkFrom, last}
 use Rattle.apsp_model.specs.Least.{IsLeast}
 use Rattle.apsp_model.proofs.Walks.{last_is}
 use Rattle.fixup_math.specs.Ranks.{IsRank}
-use Rattle.fixup_math.specs.Settling.{IsSettling, IsClass}
+use Rattle.fixup_math.specs.Settling.{SettlingInvariant, IsClass}
 use Rattle.fixup_math.proofs.Settling.{least_winner, winner_is_new, queued_popped}
-use Rattle.fixup_math.specs.Settling.{IsInClass}
+use Rattle.fixup_math.specs.Settling.{ClassInvariant}
 
 ends_of : (g : Graph) (p : List ℕ) → IsWalk g p → (x : ℕ) × (y : ℕ) × IsWalkFrom g x y p
 ends_of g [] h = absurd h
 ends_of g (x ∷ p) h = let l : (y : ℕ) × (last (x ∷ p) ≡ Some y) = last_is (x ∷ p) (omega arith) in (x, l.0, record { walk = h; from = refl; to = l.1 })
 
 -- it holds once a class is taken
-pub class_starts : (g : Graph) (UpTo : List ℕ → List ℕ → Type 0) (rank : IsRank g UpTo) (H0 H K Q : List ℕ → Type 0) (Won : ℕ → ℕ → Type 0) (s : IsSettling g H0 H K Q Won) (Rest Winner : List ℕ → Type 0) (c : List ℕ) (class : IsClass g UpTo Q Rest Winner Won c) (Won1 : ℕ → ℕ → Type 0) → ((x y : ℕ) → Won1 x y ↔ (Won x y ⊎ ((w : List ℕ) × Winner w × IsWalkFrom g x y w))) → IsInClass g UpTo H0 H K Rest Winner Won1 c
+pub class_starts : (g : Graph) (UpTo : List ℕ → List ℕ → Type 0) (rank : IsRank g UpTo) (H0 H K Q : List ℕ → Type 0) (Won : ℕ → ℕ → Type 0) (s : SettlingInvariant g H0 H K Q Won) (Rest Winner : List ℕ → Type 0) (c : List ℕ) (class : IsClass g UpTo Q Rest Winner Won c) (Won1 : ℕ → ℕ → Type 0) → ((x y : ℕ) → Won1 x y ↔ (Won x y ⊎ ((w : List ℕ) × Winner w × IsWalkFrom g x y w))) → ClassInvariant g UpTo H0 H K Rest Winner Won1 c
 class_starts g UpTo rank H0 H K Q Won s Rest Winner c class Won1 won1 = record {
   closed = s.closed;
   singles = s.singles;

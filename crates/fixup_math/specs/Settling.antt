@@ -8,7 +8,7 @@ use Rattle.apsp_model.specs.Local.{IsVertex, IsLocal}
 use Rattle.apsp_model.specs.Order.{IsUpto}
 
 -- H is historical, K kept and Q held, and Won says which pairs are won
-pub record IsQueued (g : Graph) (H K Q : List ℕ → Type 0) (Won : ℕ → ℕ → Type 0) : Type 0 where
+pub record HeldCoverKept (g : Graph) (H K Q : List ℕ → Type 0) (Won : ℕ → ℕ → Type 0) : Type 0 where
   -- of a pair that is not won each kept path has a held or historical one that is not above it
   pub covered : (x y : ℕ) (p : List ℕ) → K p → IsWalkFrom g x y p → 1 < length p
       → Won x y ⊎ ((q : List ℕ) × (Q q ⊎ H q) × IsWalkFrom g x y q × IsUpto g q p)
@@ -25,7 +25,7 @@ pub record IsLeastKept (g : Graph) (K : List ℕ → Type 0) (x y : ℕ) (q : Li
 
 -- what holds of a settling before each class, where H0 held at its start: what is historical, kept and held by now, and
 -- which pairs are won
-pub record IsSettling (g : Graph) (H0 H K Q : List ℕ → Type 0) (Won : ℕ → ℕ → Type 0) : Type 0 where
+pub record SettlingInvariant (g : Graph) (H0 H K Q : List ℕ → Type 0) (Won : ℕ → ℕ → Type 0) : Type 0 where
   pub closed : IsClosedUnderParts H
   pub singles : (p : List ℕ) → IsVertex g.vertices p → H p
   pub old : (p : List ℕ) → H0 p → H p
@@ -33,7 +33,7 @@ pub record IsSettling (g : Graph) (H0 H K Q : List ℕ → Type 0) (Won : ℕ �
   pub kept : (p : List ℕ) → K p ↔ IsLocal g H p
   pub marked_kept : (p : List ℕ) → H p → K p
   pub held_kept : (p : List ℕ) → Q p → K p
-  pub queued : IsQueued g H K Q Won
+  pub queued : HeldCoverKept g H K Q Won
   pub won : (x y : ℕ) → Won x y → (w : List ℕ) × H w × IsLeast g x y w
 
 -- a class is taken: c is of least rank, Rest stays held, and Winner holds of the least path of each pair that was not
@@ -53,7 +53,7 @@ pub record IsClass (g : Graph) (UpTo : List ℕ → List ℕ → Type 0) (Q Rest
 
 -- what holds once the class of c is taken, where H0 held at the start of the settling: Todo holds of its winners, which
 -- are to be promoted
-pub record IsInClass (g : Graph) (UpTo : List ℕ → List ℕ → Type 0) (H0 H K Q Todo : List ℕ → Type 0)
+pub record ClassInvariant (g : Graph) (UpTo : List ℕ → List ℕ → Type 0) (H0 H K Q Todo : List ℕ → Type 0)
     (Won : ℕ → ℕ → Type 0) (c : List ℕ) : Type 0 where
   pub closed : IsClosedUnderParts H
   pub singles : (p : List ℕ) → IsVertex g.vertices p → H p
@@ -62,7 +62,7 @@ pub record IsInClass (g : Graph) (UpTo : List ℕ → List ℕ → Type 0) (H0 H
   pub kept : (p : List ℕ) → K p ↔ IsLocal g H p
   pub marked_kept : (p : List ℕ) → H p → K p
   pub held_kept : (p : List ℕ) → Q p → K p
-  pub queued : IsQueued g H K Q Won
+  pub queued : HeldCoverKept g H K Q Won
   pub won : (x y : ℕ) → Won x y → (w : List ℕ) × (H w ⊎ Todo w) × IsLeast g x y w
   pub todo_kept : (w : List ℕ) → Todo w → K w
   pub todo_least : (w : List ℕ) → Todo w → IsLeastWalk g w
@@ -73,9 +73,9 @@ pub record IsInClass (g : Graph) (UpTo : List ℕ → List ℕ → Type 0) (H0 H
 
 -- H is historical, K was kept and Rest held before the first join; the joins 'done' are formed, K1 is kept and Q1 held
 -- by now
-pub record IsForming (g : Graph) (H K Rest : List ℕ → Type 0) (Won : ℕ → ℕ → Type 0) (done : List (List ℕ))
+pub record FormingInvariant (g : Graph) (H K Rest : List ℕ → Type 0) (Won : ℕ → ℕ → Type 0) (done : List (List ℕ))
     (K1 Q1 : List ℕ → Type 0) : Type 0 where
   pub kept : (p : List ℕ) → K1 p ↔ (K p ⊎ Contains done p)
   pub rest_held : (p : List ℕ) → Rest p → Q1 p
   pub held : (p : List ℕ) → Q1 p → Rest p ⊎ Contains done p
-  pub queued : IsQueued g H K1 Q1 Won
+  pub queued : HeldCoverKept g H K1 Q1 Won
