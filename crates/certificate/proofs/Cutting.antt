@@ -6,7 +6,7 @@ use Rattle.std.proofs.Common.{◌∙◌, ap, subst, arith}
 use Rattle.std.proofs.lemmas.Bool.{eq-eqb, ne_eqb}
 use Rattle.std.proofs.lemmas.Bool.Decides.{nat_tests}
 use Rattle.certificate.specs.Cuts.{onto_front, cut}
-use Rattle.certificate.proofs.Digits.{IsDigit, digit_from_value}
+use Rattle.numerals.proofs.Digits.{IsDigit, digit_from_value}
 
 -- no byte of the text is this one
 abbrev pub avoids : ℕ → List ℕ → Bool

@@ -6,8 +6,8 @@ use Rattle.apsp_model.specs.declared.TheConstants.{MOST_VERTICES, LEAST_WEIGHT, 
 use Rattle.apsp_model.specs.Graph.{IsEdgeOf}
 use Rattle.apsp_model.specs.Stated.{Entry, IsEntryOf}
 use Rattle.certificate.specs.Cuts.{◌and_then◌, numbers_in}
-use Rattle.certificate.specs.Grammar.{spaced, edge_line, pair_line}
-use Rattle.certificate.specs.Reading.{edge_of, pair_of, edge_in, pair_in, ends_fit, edge_fits, entry_fits, pair_fits}
+use Rattle.certificate.specs.Grammar.{spaced, edge_line_text, pair_line_text}
+use Rattle.certificate.specs.Reading.{edge_of_numbers, pair_of_numbers, edge_in, pair_in, ends_fit, edge_fits, entry_fits, pair_fits}
 use Rattle.certificate.specs.Answer.{if_fits}
 use Rattle.certificate.proofs.Cutting.{avoids}
 use Rattle.certificate.proofs.Spellings.{joint, some_same, AreSmall, AreNumbers, numbers_parts, numbers_again, spaced_avoids}
@@ -35,7 +35,7 @@ item_if fits (Some p) e h = at (fits p) h
 record IsEdgeRow (ks : List ℕ) (e : (ℕ × ℕ) × ℕ) : Type 0 where
   is : ks ≡ e.0.0 ∷ e.0.1 ∷ e.1 ∷ []
 
-edge_row : (ks : List ℕ) (e : (ℕ × ℕ) × ℕ) → edge_of ks ≡ Some e → IsEdgeRow ks e
+edge_row : (ks : List ℕ) (e : (ℕ × ℕ) × ℕ) → edge_of_numbers ks ≡ Some e → IsEdgeRow ks e
 edge_row [] e h = cc
 edge_row (u ∷ []) e h = cc
 edge_row (u ∷ v ∷ []) e h = cc
@@ -47,7 +47,7 @@ edge_row (u ∷ v ∷ w ∷ x ∷ ks) e h = cc
 record IsPairRow (ks : List ℕ) (e : (ℕ × ℕ) × Entry) : Type 0 where
   is : ks ≡ e.0.0 ∷ e.0.1 ∷ e.1.dist ∷ e.1.hops ∷ e.1.next ∷ []
 
-pair_row : (ks : List ℕ) (e : (ℕ × ℕ) × Entry) → pair_of ks ≡ Some e → IsPairRow ks e
+pair_row : (ks : List ℕ) (e : (ℕ × ℕ) × Entry) → pair_of_numbers ks ≡ Some e → IsPairRow ks e
 pair_row [] e h = cc
 pair_row (a ∷ []) e h = cc
 pair_row (a ∷ b ∷ []) e h = cc
@@ -59,9 +59,9 @@ pair_row (a ∷ b ∷ c ∷ d ∷ f ∷ []) e h =
 pair_row (a ∷ b ∷ c ∷ d ∷ f ∷ g ∷ ks) e h = cc
 
 -- the weight of an entry that was read has at most 18 digits
-pub pair_small : (fits : (ℕ × ℕ) × Entry → Bool) (line ks : List ℕ) (e : (ℕ × ℕ) × Entry) → numbers_in 5 line ≡ Some ks → Some e ≡ if_fits fits (pair_of ks) → e.1.dist < 10 ^ 18
+pub pair_small : (fits : (ℕ × ℕ) × Entry → Bool) (line ks : List ℕ) (e : (ℕ × ℕ) × Entry) → numbers_in 5 line ≡ Some ks → Some e ≡ if_fits fits (pair_of_numbers ks) → e.1.dist < 10 ^ 18
 pair_small fits line ks e read h =
-    let row = pair_row ks e (item_if fits (pair_of ks) e h) in
+    let row = pair_row ks e (item_if fits (pair_of_numbers ks) e h) in
     let small : AreSmall ks = (numbers_parts 4 line ks read).small in
     let there : AreSmall (e.0.0 ∷ e.0.1 ∷ e.1.dist ∷ e.1.hops ∷ e.1.next ∷ []) = subst AreSmall row.is small in
     there.1.1.0
@@ -126,30 +126,30 @@ pub record IsForm {V : Type 0} (item_in : List ℕ → Option ((ℕ × ℕ) × V
   pub again : (e : (ℕ × ℕ) × V) → fits e ≡ true → Few e → (item_in (line e) ≡ Some e) × (avoids 10 (line e) ≡ true)
 
 -- the lines of edges have the form of an item
-pub edges_form : (n : ℕ) → n ≤ MOST_VERTICES → IsForm edge_in (edge_fits n) edge_line (λ _. Unit {0})
+pub edges_form : (n : ℕ) → n ≤ MOST_VERTICES → IsForm edge_in (edge_fits n) edge_line_text (λ _. Unit {0})
 edges_form n most = record { parts = parts; again = again }
   where
-    parts : (l : List ℕ) (e : (ℕ × ℕ) × ℕ) → edge_in l ≡ Some e → (l ≡ edge_line e) × Unit {0}
+    parts : (l : List ℕ) (e : (ℕ × ℕ) × ℕ) → edge_in l ≡ Some e → (l ≡ edge_line_text e) × Unit {0}
     parts l e h =
-        let j = joint (numbers_in 3 l) edge_of e h in
+        let j = joint (numbers_in 3 l) edge_of_numbers e h in
         let ks : AreNumbers 3 l j.value = numbers_parts 2 l j.value j.first in
         (ks.text ∙ ap spaced (edge_row j.value e j.second).is, tt)
 
     small : (e : (ℕ × ℕ) × ℕ) → IsEdgeOf n e.0.0 e.0.1 e.1 → AreSmall (e.0.0 ∷ e.0.1 ∷ e.1 ∷ [])
     small e h = (omega (arith, h.from, most), (omega (arith, h.to, most), (omega (arith, h.most), tt)))
 
-    again : (e : (ℕ × ℕ) × ℕ) → edge_fits n e ≡ true → Unit {0} → (edge_in (edge_line e) ≡ Some e) × (avoids 10 (edge_line e) ≡ true)
+    again : (e : (ℕ × ℕ) × ℕ) → edge_fits n e ≡ true → Unit {0} → (edge_in (edge_line_text e) ≡ Some e) × (avoids 10 (edge_line_text e) ≡ true)
     again e h few =
         let s : AreSmall (e.0.0 ∷ e.0.1 ∷ e.1 ∷ []) = small e (edge_from_test n e h) in
-        (ap (λ o. o and_then edge_of) (numbers_again e.0.0 (e.0.1 ∷ e.1 ∷ []) s), spaced_avoids (e.0.0 ∷ e.0.1 ∷ e.1 ∷ []) s)
+        (ap (λ o. o and_then edge_of_numbers) (numbers_again e.0.0 (e.0.1 ∷ e.1 ∷ []) s), spaced_avoids (e.0.0 ∷ e.0.1 ∷ e.1 ∷ []) s)
 
 -- the lines of pairs have the form of an item
-pub pairs_form : (n : ℕ) → n ≤ MOST_VERTICES → IsForm pair_in (pair_fits n) pair_line (λ e. e.1.dist < 10 ^ 18)
+pub pairs_form : (n : ℕ) → n ≤ MOST_VERTICES → IsForm pair_in (pair_fits n) pair_line_text (λ e. e.1.dist < 10 ^ 18)
 pairs_form n most = record { parts = parts; again = again }
   where
-    parts : (l : List ℕ) (e : (ℕ × ℕ) × Entry) → pair_in l ≡ Some e → (l ≡ pair_line e) × (e.1.dist < 10 ^ 18)
+    parts : (l : List ℕ) (e : (ℕ × ℕ) × Entry) → pair_in l ≡ Some e → (l ≡ pair_line_text e) × (e.1.dist < 10 ^ 18)
     parts l e h =
-        let j = joint (numbers_in 5 l) pair_of e h in
+        let j = joint (numbers_in 5 l) pair_of_numbers e h in
         let ks : AreNumbers 5 l j.value = numbers_parts 4 l j.value j.first in
         let row = pair_row j.value e j.second in
         let there : AreSmall (e.0.0 ∷ e.0.1 ∷ e.1.dist ∷ e.1.hops ∷ e.1.next ∷ []) = subst AreSmall row.is ks.small in
@@ -158,7 +158,7 @@ pairs_form n most = record { parts = parts; again = again }
     small : (e : (ℕ × ℕ) × Entry) → IsEntryOf n e.0.0 e.0.1 e.1 → e.1.dist < 10 ^ 18 → AreSmall (e.0.0 ∷ e.0.1 ∷ e.1.dist ∷ e.1.hops ∷ e.1.next ∷ [])
     small e h few = (omega (arith, h.from, most), (omega (arith, h.to, most), (few, (omega (arith, h.most_hops, most), (omega (arith, h.next, most), tt)))))
 
-    again : (e : (ℕ × ℕ) × Entry) → pair_fits n e ≡ true → e.1.dist < 10 ^ 18 → (pair_in (pair_line e) ≡ Some e) × (avoids 10 (pair_line e) ≡ true)
+    again : (e : (ℕ × ℕ) × Entry) → pair_fits n e ≡ true → e.1.dist < 10 ^ 18 → (pair_in (pair_line_text e) ≡ Some e) × (avoids 10 (pair_line_text e) ≡ true)
     again e h few =
         let s : AreSmall (e.0.0 ∷ e.0.1 ∷ e.1.dist ∷ e.1.hops ∷ e.1.next ∷ []) = small e (entry_from_test n e h) few in
-        (ap (λ o. o and_then pair_of) (numbers_again e.0.0 (e.0.1 ∷ e.1.dist ∷ e.1.hops ∷ e.1.next ∷ []) s), spaced_avoids (e.0.0 ∷ e.0.1 ∷ e.1.dist ∷ e.1.hops ∷ e.1.next ∷ []) s)
+        (ap (λ o. o and_then pair_of_numbers) (numbers_again e.0.0 (e.0.1 ∷ e.1.dist ∷ e.1.hops ∷ e.1.next ∷ []) s), spaced_avoids (e.0.0 ∷ e.0.1 ∷ e.1.dist ∷ e.1.hops ∷ e.1.next ∷ []) s)

@@ -9,7 +9,7 @@ use Rattle.apsp_model.specs.Stated.{Stated}
 use Rattle.certificate.specs.declared.CertError.{CertError}
 use Rattle.certificate.specs.declared.CertError.TheVariants.{Shape, Order, Range, Memory}
 use Rattle.certificate.specs.Cuts.{cut, number_behind}
-use Rattle.certificate.specs.Reading.{◌>>=◌, or_shape, Rest, Head, line_at, fixed_line, named_line, vertices_line, count_line, edge_in, pair_in, edge_fits, pair_fits, rises, item_line, items_onto, end_line, table_of, head_of, body_of, stated_by}
+use Rattle.certificate.specs.Reading.{◌>>=◌, or_shape, Rest, Head, line_at, fixed_line, named_line, vertices_head_line, count_line, edge_in, pair_in, edge_fits, pair_fits, rises, item_line, items_onto, closing_line, table_of, head_of, body_of, stated_by}
 use Rattle.certificate.specs.Answer.{IsEarly}
 
 -- a fault is in a line from the k-th on
@@ -92,7 +92,7 @@ fixed_goes k text r h =
     at true next p = p
     at false next p = h
 
-end_late : (k : ℕ) (r : Rest) → k ≤ r.number → Late k (end_line r)
+end_late : (k : ℕ) (r : Rest) → k ≤ r.number → Late k (closing_line r)
 end_late k r h = late_on (λ (x : Rest). x) k (fixed_line (codes "end") r) (λ e. if length e.bytes == 0 then Ok tt else Err (Shape e.number)) (fixed_goes k (codes "end") r h) (λ e p. at (length e.bytes == 0) e p)
   where
     at : (b : Bool) (e : Rest) → k ≤ e.number → Late {X = Unit {0}} k (if b then Ok tt else Err (Shape e.number))
@@ -103,7 +103,7 @@ body_late : (k : ℕ) (h : Head) → k ≤ h.rest.number → Late k (body_of h)
 body_late k h l =
     late_on (λ (x : map.FinMap pair_cmp ℕ × Rest). x.1) k (table_of (codes "edges") edge_in (edge_fits h.vertices) h.vertices h.rest) _ (table_goes edge_in (edge_fits h.vertices) k (codes "edges") h.vertices h.rest l)
     (λ es p. late_on (λ (x : map.FinMap pair_cmp _ × Rest). x.1) k (table_of (codes "pairs") pair_in (pair_fits h.vertices) h.vertices es.1) _ (table_goes pair_in (pair_fits h.vertices) k (codes "pairs") h.vertices es.1 p)
-    (λ ps q. late_end k (end_line ps.1) (λ _. record { number = h.number; graph = record { vertices = h.vertices; edges = es.0 }; entries = ps.0 }) (end_late k ps.1 q)))
+    (λ ps q. late_end k (closing_line ps.1) (λ _. record { number = h.number; graph = record { vertices = h.vertices; edges = es.0 }; entries = ps.0 }) (end_late k ps.1 q)))
 
 -- a body that starts in the fourth line has no fault before it
 pub not_early : (h : Head) (r : Result Stated CertError) → r ≡ body_of h → 4 ≤ h.rest.number → IsEarly r → ⊥
@@ -118,7 +118,7 @@ not_early h r e l early = at (body_of h) (body_late 4 h l) (subst IsEarly e earl
 
 -- ---- every fault is one of a line
 
-vertices_goes : (k : ℕ) (r : Rest) → k ≤ r.number → Goes (λ (x : ℕ × Rest). x.1) k (vertices_line r)
+vertices_goes : (k : ℕ) (r : Rest) → k ≤ r.number → Goes (λ (x : ℕ × Rest). x.1) k (vertices_head_line r)
 vertices_goes k r h =
     goes_on (λ (x : ℕ × Rest). x.1) (λ (x : ℕ × Rest). x.1) k (named_line (codes "vertices") r) (λ n. if nat_le 1 n.0 && nat_le n.0 MOST_VERTICES then Ok n else Err (Range r.number)) (named_goes k (codes "vertices") r h)
     (λ n p. at (nat_le 1 n.0 && nat_le n.0 MOST_VERTICES) n p)
@@ -131,7 +131,7 @@ head_goes : (k : ℕ) (r : Rest) → k ≤ r.number → Goes (λ (h : Head). h.r
 head_goes k r h =
     goes_on (λ (x : Rest). x) (λ (d : Head). d.rest) k (fixed_line (codes "apsp certificate 1") r) _ (fixed_goes k (codes "apsp certificate 1") r h)
     (λ a p. goes_on (λ (x : ℕ × Rest). x.1) (λ (d : Head). d.rest) k (named_line (codes "number") a) _ (named_goes k (codes "number") a p)
-    (λ c q. goes_on (λ (x : ℕ × Rest). x.1) (λ (d : Head). d.rest) k (vertices_line c.1) (λ n. Ok (record { number = c.0; vertices = n.0; rest = n.1 })) (vertices_goes k c.1 q) (λ n u. u)))
+    (λ c q. goes_on (λ (x : ℕ × Rest). x.1) (λ (d : Head). d.rest) k (vertices_head_line c.1) (λ n. Ok (record { number = c.0; vertices = n.0; rest = n.1 })) (vertices_goes k c.1 q) (λ n u. u)))
 
 -- want of memory is no fault of a text
 pub never_memory : (bytes : List ℕ) → stated_by bytes ≡ Err Memory → ⊥

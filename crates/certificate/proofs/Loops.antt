@@ -8,7 +8,7 @@ use Rattle.apsp_model.specs.Graph.{pair_cmp, no_edges}
 use Rattle.apsp_model.specs.Stated.{Stated, Entry}
 use Rattle.certificate.specs.declared.CertError.{CertError}
 use Rattle.certificate.specs.Reading.{◌>>=◌, Rest, edge_in, pair_in, edge_fits, pair_fits, count_line, item_line, items_onto, table_of}
-use Rattle.certificate.specs.Inside.{with_edge, with_pair}
+use Rattle.certificate.specs.Inside.{with_stated_edge, with_pair}
 
 -- after so many of the lines the others have to be read onto the map so far
 pub record SoFar {V : Type 0} (item_in : List ℕ → Option ((ℕ × ℕ) × V)) (fits : (ℕ × ℕ) × V → Bool) (m : map.FinMap pair_cmp V) (count done : ℕ) (before : Option (ℕ × ℕ)) (start rest : Rest) : Type 0 where
@@ -70,11 +70,11 @@ pub edges_begin : (old : Stated) (n count : ℕ) (start : Rest) → old.graph �
 edges_begin old n count start none = record { items = begin edge_in (edge_fits n) old.graph.edges count start (ap (λ g. g.edges) none); same = refl }
 
 -- .. takes an edge more
-pub edges_step : (old now next : Stated) (n count done : ℕ) (before : Option (ℕ × ℕ)) (start rest behind : Rest) (e : (ℕ × ℕ) × ℕ) → EdgesSoFar old now n count done before start rest → done < count → item_line edge_in (edge_fits n) before rest ≡ Ok (e, behind) → behind.number ≡ rest.number + 1 → next ≡ with_edge now e → EdgesSoFar old next n count (done + 1) (Some e.0) start behind
+pub edges_step : (old now next : Stated) (n count done : ℕ) (before : Option (ℕ × ℕ)) (start rest behind : Rest) (e : (ℕ × ℕ) × ℕ) → EdgesSoFar old now n count done before start rest → done < count → item_line edge_in (edge_fits n) before rest ≡ Ok (e, behind) → behind.number ≡ rest.number + 1 → next ≡ with_stated_edge now e → EdgesSoFar old next n count (done + 1) (Some e.0) start behind
 edges_step old now next n count done before start rest behind e h below line number put =
-    let made : EdgesSoFar old (with_edge now e) n count (done + 1) (Some e.0) start behind = record {
+    let made : EdgesSoFar old (with_stated_edge now e) n count (done + 1) (Some e.0) start behind = record {
       items = step edge_in (edge_fits n) now.graph.edges count done before start rest e behind h.items below line number;
-      same = ap (λ (s : Stated). with_edge s e) h.same;
+      same = ap (λ (s : Stated). with_stated_edge s e) h.same;
     } in
     subst (λ s. EdgesSoFar old s n count (done + 1) (Some e.0) start behind) (sym put) made
 

@@ -6,7 +6,8 @@ use Rattle.std.proofs.Common.{◌∙◌, ap, subst, arith}
 use Rattle.std.proofs.lemmas.Slice.Eq.{bytes_eq-Decides}
 use Rattle.certificate.specs.declared.CertError.{CertError}
 use Rattle.certificate.specs.declared.CertError.TheVariants.{Shape}
-use Rattle.certificate.specs.Numbers.{number_of}
+use Rattle.numerals.specs.Numbers.{number_of}
+use Rattle.certificate.specs.declared.TheConstants.{MOST_DIGITS}
 use Rattle.certificate.specs.Cuts.{cut, ◌and_then◌, number_before, number_behind, numbers_in}
 use Rattle.certificate.specs.Grammar.{spaced, named}
 use Rattle.certificate.specs.Reading.{◌>>=◌, or_shape, Rest, line_at, fixed_line, named_line}
@@ -75,22 +76,22 @@ word_avoids c k low small = digits_avoid c (decimal k) low (word_of k small).dig
 
 number_before_again : (k : ℕ) (rest : List ℕ) → k < 10 ^ 18 → number_before 32 (decimal k ++ 32 ∷ rest) ≡ Some (k, rest)
 number_before_again k rest small =
-    ap (λ o. o and_then (λ p. number_of p.0 and_then (λ j. Some (j, p.1)))) (cut_again 32 (decimal k) rest (word_avoids 32 k (omega arith) small))
+    ap (λ o. o and_then (λ p. number_of MOST_DIGITS p.0 and_then (λ j. Some (j, p.1)))) (cut_again 32 (decimal k) rest (word_avoids 32 k (omega arith) small))
     ∙ ap (λ o. o and_then (λ j. Some (j, rest))) (read_again k small)
 
-pub record IsBefore (s rest : List ℕ) (k : ℕ) : Type 0 where
+pub record IsSpelledBefore (s rest : List ℕ) (k : ℕ) : Type 0 where
   pub whole : s ≡ decimal k ++ 32 ∷ rest
   pub small : k < 10 ^ 18
 
-number_before_parts : (s : List ℕ) (a : ℕ × List ℕ) → number_before 32 s ≡ Some a → IsBefore s a.1 a.0
+number_before_parts : (s : List ℕ) (a : ℕ × List ℕ) → number_before 32 s ≡ Some a → IsSpelledBefore s a.1 a.0
 number_before_parts s a e =
-    let outer = joint (cut 32 s) (λ p. number_of p.0 and_then (λ k. Some (k, p.1))) a e in
-    let inner = joint (number_of outer.value.0) (λ k. Some (k, outer.value.1)) a outer.second in
+    let outer = joint (cut 32 s) (λ p. number_of MOST_DIGITS p.0 and_then (λ k. Some (k, p.1))) a e in
+    let inner = joint (number_of MOST_DIGITS outer.value.0) (λ k. Some (k, outer.value.1)) a outer.second in
     let place : IsCutAt 32 s outer.value.0 outer.value.1 = cut_parts 32 s outer.value.0 outer.value.1 outer.first in
     let word : IsSpelled outer.value.0 inner.value = spelled outer.value.0 inner.value inner.first in
     let same : ◌≡◌ {A = ℕ × List ℕ} (inner.value, outer.value.1) a = some_same (inner.value, outer.value.1) a inner.second in
-    let made : IsBefore s outer.value.1 inner.value = record { whole = place.whole ∙ ap (λ w. w ++ 32 ∷ outer.value.1) word.word; small = word.small } in
-    let P : ℕ × List ℕ → Type 0 = λ b. IsBefore s b.1 b.0 in
+    let made : IsSpelledBefore s outer.value.1 inner.value = record { whole = place.whole ∙ ap (λ w. w ++ 32 ∷ outer.value.1) word.word; small = word.small } in
+    let P : ℕ × List ℕ → Type 0 = λ b. IsSpelledBefore s b.1 b.0 in
     subst P same made
 
 -- s is the spelling of the n numbers ks, with spaces between them
@@ -102,18 +103,18 @@ pub record AreNumbers (n : ℕ) (s ks : List ℕ) : Type 0 where
 -- a line from which n numbers are read is their spelling
 pub numbers_parts : (n : ℕ) (s ks : List ℕ) → numbers_in (suc n) s ≡ Some ks → AreNumbers (suc n) s ks
 numbers_parts zero s ks e =
-    let j = joint (number_of s) (λ k. Some (k ∷ [])) ks e in
+    let j = joint (number_of MOST_DIGITS s) (λ k. Some (k ∷ [])) ks e in
     let word : IsSpelled s j.value = spelled s j.value j.first in
     let made : AreNumbers 1 s (j.value ∷ []) = record { text = word.word; count = refl; small = (word.small, tt) } in
     subst (AreNumbers 1 s) (some_same (j.value ∷ []) ks j.second) made
 numbers_parts (suc n) s ks e =
     let a = joint (number_before 32 s) (λ a. numbers_in (suc n) a.1 and_then (λ ls. Some (a.0 ∷ ls))) ks e in
     let b = joint (numbers_in (suc n) a.value.1) (λ ls. Some (a.value.0 ∷ ls)) ks a.second in
-    let here : IsBefore s a.value.1 a.value.0 = number_before_parts s a.value a.first in
+    let here : IsSpelledBefore s a.value.1 a.value.0 = number_before_parts s a.value a.first in
     let later : AreNumbers (suc n) a.value.1 b.value = numbers_parts n a.value.1 b.value b.first in
     subst (AreNumbers (suc (suc n)) s) (some_same (a.value.0 ∷ b.value) ks b.second) (made s a.value.1 a.value.0 b.value n here later)
   where
-    made : (s rest : List ℕ) (k : ℕ) (ls : List ℕ) (n : ℕ) → IsBefore s rest k → AreNumbers (suc n) rest ls → AreNumbers (suc (suc n)) s (k ∷ ls)
+    made : (s rest : List ℕ) (k : ℕ) (ls : List ℕ) (n : ℕ) → IsSpelledBefore s rest k → AreNumbers (suc n) rest ls → AreNumbers (suc (suc n)) s (k ∷ ls)
     made s rest k [] n here later = absurd (omega (arith, later.count))
     made s rest k (l ∷ ls) n here later = record {
       text = here.whole ∙ ap (λ r. decimal k ++ 32 ∷ r) later.text;
@@ -144,11 +145,11 @@ pub record IsNamed (word s : List ℕ) (k : ℕ) : Type 0 where
 -- a line from which a number is read behind a word is of that form
 pub named_parts : (word s : List ℕ) (k : ℕ) → number_behind word s ≡ Some k → IsNamed word s k
 named_parts word s k e =
-    let a = joint (cut 32 s) (λ p. if bytes_eq p.0 word then number_of p.1 else None) k e in
+    let a = joint (cut 32 s) (λ p. if bytes_eq p.0 word then number_of MOST_DIGITS p.1 else None) k e in
     let place : IsCutAt 32 s a.value.0 a.value.1 = cut_parts 32 s a.value.0 a.value.1 a.first in
     at (bytes_eq a.value.0 word) a.value refl place a.second
   where
-    at : (b : Bool) (v : List ℕ × List ℕ) → bytes_eq v.0 word ≡ b → IsCutAt 32 s v.0 v.1 → (if b then number_of v.1 else None) ≡ Some k → IsNamed word s k
+    at : (b : Bool) (v : List ℕ × List ℕ) → bytes_eq v.0 word ≡ b → IsCutAt 32 s v.0 v.1 → (if b then number_of MOST_DIGITS v.1 else None) ≡ Some k → IsNamed word s k
     at true v t place e =
         let w : IsSpelled v.1 k = spelled v.1 k e in
         record { text = place.whole ∙ ap (λ f. f ++ 32 ∷ v.1) (same_bytes v.0 word t) ∙ ap (λ r. word ++ 32 ∷ r) w.word; small = w.small }
@@ -156,8 +157,8 @@ named_parts word s k e =
 
 pub named_again : (word : List ℕ) (k : ℕ) → avoids 32 word ≡ true → k < 10 ^ 18 → number_behind word (named word k) ≡ Some k
 named_again word k clean small =
-    ap (λ o. o and_then (λ p. if bytes_eq p.0 word then number_of p.1 else None)) (cut_again 32 word (decimal k) clean)
-    ∙ ap (λ b. if b then number_of (decimal k) else None) (bytes_same word)
+    ap (λ o. o and_then (λ p. if bytes_eq p.0 word then number_of MOST_DIGITS p.1 else None)) (cut_again 32 word (decimal k) clean)
+    ∙ ap (λ b. if b then number_of MOST_DIGITS (decimal k) else None) (bytes_same word)
     ∙ read_again k small
 
 pub named_avoids : (word : List ℕ) (k : ℕ) → avoids 10 word ≡ true → k < 10 ^ 18 → avoids 10 (named word k) ≡ true

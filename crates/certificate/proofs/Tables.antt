@@ -11,7 +11,7 @@ use Rattle.std.proofs.lemmas.List.{append-nil, get_or-replicate, get_or_past, le
 use Rattle.std.proofs.lemmas.Nat.{mul-add-lt, same_from_place}
 use Rattle.apsp_model.specs.Graph.{pair_cmp}
 use Rattle.apsp_model.proofs.Stars.{pairs_total, exact_pair}
-use Rattle.certificate.specs.Table.{item_list, row_items, table_items, map_of, cell_at}
+use Rattle.certificate.specs.Table.{item_list, row_items, table_items, table_map, table_cell}
 use Rattle.certificate.specs.Reading.{rises}
 use Rattle.certificate.proofs.Maps.{rises_chain, Rising, EachOf, each_weaker, entries_made, same_pair}
 
@@ -130,15 +130,15 @@ module _ {V : Type 0} where
   table_rising f n (suc u) = to_later (u, n) (suc u, 0) (table_items f n (suc u)) (table_step u n) (row_rising (f u) u n (table_items f n u) (table_rising f n u))
 
   -- the entries of the map of a table are its items, row by row
-  pub entries-map_of : (n : ℕ) (f : ℕ → ℕ → Option V) → map.entries (map_of n f) ≡ table_items f n n
-  unfolding map_of
+  pub entries-map_of : (n : ℕ) (f : ℕ → ℕ → Option V) → map.entries (table_map n f) ≡ table_items f n n
+  unfolding table_map
   entries-map_of n f = entries_made (table_items f n n) (table_rising f n n).rising
 
-  pub get-map_of : (n : ℕ) (f : ℕ → ℕ → Option V) (u v : ℕ) → map.get (map_of n f) (u, v) ≡ (if nat_lt u n && nat_lt v n then f u v else None)
-  get-map_of n f u v = map.get-entries (map_of n f) (u, v) ∙ ap (find pair_cmp (u, v)) (entries-map_of n f) ∙ find-table f n n u v
+  pub get-map_of : (n : ℕ) (f : ℕ → ℕ → Option V) (u v : ℕ) → map.get (table_map n f) (u, v) ≡ (if nat_lt u n && nat_lt v n then f u v else None)
+  get-map_of n f u v = map.get-entries (table_map n f) (u, v) ∙ ap (find pair_cmp (u, v)) (entries-map_of n f) ∙ find-table f n n u v
 
   -- the map has at a pair below n what the table has there
-  pub get_inside : (n : ℕ) (f : ℕ → ℕ → Option V) (u v : ℕ) → u < n → v < n → map.get (map_of n f) (u, v) ≡ f u v
+  pub get_inside : (n : ℕ) (f : ℕ → ℕ → Option V) (u v : ℕ) → u < n → v < n → map.get (table_map n f) (u, v) ≡ f u v
   get_inside n f u v p q = get-map_of n f u v ∙ at (f u v) p q
     where
       at : (o : Option V) → u < n → v < n → (if nat_lt u n && nat_lt v n then o else None) ≡ o
@@ -146,7 +146,7 @@ module _ {V : Type 0} where
       at (Some w) p q = grind (arith, nat_tests)
 
   -- .. and nothing elsewhere
-  pub get_outside : (n : ℕ) (f : ℕ → ℕ → Option V) (u v : ℕ) → (u < n → v < n → ⊥) → map.get (map_of n f) (u, v) ≡ None
+  pub get_outside : (n : ℕ) (f : ℕ → ℕ → Option V) (u v : ℕ) → (u < n → v < n → ⊥) → map.get (table_map n f) (u, v) ≡ None
   get_outside n f u v out = get-map_of n f u v ∙ at (f u v) out
     where
       at : (o : Option V) → (u < n → v < n → ⊥) → (if nat_lt u n && nat_lt v n then o else None) ≡ None
@@ -154,34 +154,34 @@ module _ {V : Type 0} where
       at (Some w) out = grind (arith, nat_tests)
 
   -- two tables that differ in one cell
-  pub map_with : (n a b : ℕ) (w : V) (f g : ℕ → ℕ → Option V) → a < n → b < n → ((u v : ℕ) → u < n → v < n → g u v ≡ (if u == a && v == b then Some w else f u v)) → map_of n g ≡ map.insert (map_of n f) (a, b) w
-  map_with n a b w f g p q is = map.same_map pairs_total exact_pair (map_of n g) (map.insert (map_of n f) (a, b) w) (λ k. at k.0 k.1)
+  pub map_with : (n a b : ℕ) (w : V) (f g : ℕ → ℕ → Option V) → a < n → b < n → ((u v : ℕ) → u < n → v < n → g u v ≡ (if u == a && v == b then Some w else f u v)) → table_map n g ≡ map.insert (table_map n f) (a, b) w
+  map_with n a b w f g p q is = map.same_map pairs_total exact_pair (table_map n g) (map.insert (table_map n f) (a, b) w) (λ k. at k.0 k.1)
     where
-      inside : (u v : ℕ) → u < n → v < n → map.get (map_of n g) (u, v) ≡ map.get (map.insert (map_of n f) (a, b) w) (u, v)
+      inside : (u v : ℕ) → u < n → v < n → map.get (table_map n g) (u, v) ≡ map.get (map.insert (table_map n f) (a, b) w) (u, v)
       inside u v r s =
           get_inside n g u v r s ∙ is u v r s
           ∙ ap (λ o. if u == a && v == b then Some w else o) (sym (get_inside n f u v r s))
-          ∙ ap (λ c. cond c (Some w) (map.get (map_of n f) (u, v))) (sym (same_pair u v a b))
-          ∙ sym (map.get-insert pairs_total (map_of n f) (a, b) w (u, v))
+          ∙ ap (λ c. cond c (Some w) (map.get (table_map n f) (u, v))) (sym (same_pair u v a b))
+          ∙ sym (map.get-insert pairs_total (table_map n f) (a, b) w (u, v))
 
       apart : (u v : ℕ) (o : Option V) → (u < n → v < n → ⊥) → o ≡ cond (u == a && v == b) (Some w) o
       apart u v None out = grind (arith, nat_tests)
       apart u v (Some x) out = grind (arith, nat_tests)
 
-      outside : (u v : ℕ) → (u < n → v < n → ⊥) → map.get (map_of n g) (u, v) ≡ map.get (map.insert (map_of n f) (a, b) w) (u, v)
+      outside : (u v : ℕ) → (u < n → v < n → ⊥) → map.get (table_map n g) (u, v) ≡ map.get (map.insert (table_map n f) (a, b) w) (u, v)
       outside u v out =
           get_outside n g u v out
           ∙ sym (get_outside n f u v out)
-          ∙ apart u v (map.get (map_of n f) (u, v)) out
-          ∙ ap (λ c. cond c (Some w) (map.get (map_of n f) (u, v))) (sym (same_pair u v a b))
-          ∙ sym (map.get-insert pairs_total (map_of n f) (a, b) w (u, v))
+          ∙ apart u v (map.get (table_map n f) (u, v)) out
+          ∙ ap (λ c. cond c (Some w) (map.get (table_map n f) (u, v))) (sym (same_pair u v a b))
+          ∙ sym (map.get-insert pairs_total (table_map n f) (a, b) w (u, v))
 
-      at : (u v : ℕ) → map.get (map_of n g) (u, v) ≡ map.get (map.insert (map_of n f) (a, b) w) (u, v)
+      at : (u v : ℕ) → map.get (table_map n g) (u, v) ≡ map.get (map.insert (table_map n f) (a, b) w) (u, v)
       at u v = elim (cases_inside n u v) [ inl i ↦ inside u v i.0 i.1 | inr o ↦ outside u v o ]
 
   -- the map of a table of nothing is empty
-  pub map_none : (n : ℕ) (f : ℕ → ℕ → Option V) → ((u v : ℕ) → u < n → v < n → f u v ≡ None) → map_of n f ≡ map.empty
-  map_none n f none = map.same_map pairs_total exact_pair (map_of n f) map.empty (λ k. elim (cases_inside n k.0 k.1) [
+  pub map_none : (n : ℕ) (f : ℕ → ℕ → Option V) → ((u v : ℕ) → u < n → v < n → f u v ≡ None) → table_map n f ≡ map.empty
+  map_none n f none = map.same_map pairs_total exact_pair (table_map n f) map.empty (λ k. elim (cases_inside n k.0 k.1) [
     | inl i ↦ get_inside n f k.0 k.1 i.0 i.1 ∙ none k.0 k.1 i.0 i.1 ∙ sym (map.get-empty pair_cmp (k.0, k.1))
     | inr o ↦ get_outside n f k.0 k.1 o ∙ sym (map.get-empty pair_cmp (k.0, k.1))
   ])
@@ -190,17 +190,17 @@ module _ {V : Type 0} where
 
 module _ {A : Type 0} where
   -- empty cells have nothing at any place
-  pub no_cells : (n i : ℕ) → cell_at {A = A} (replicate n None) i ≡ None
+  pub no_cells : (n i : ℕ) → table_cell {A = A} (replicate n None) i ≡ None
   no_cells n i = elim (cases_lt i n) [
     | inl p ↦ get_or-replicate n i None None p
     | inr p ↦ get_or_past (replicate n None) i None (omega (arith, length-replicate n (let x : Option A = None in x), p))
   ]
 
   -- a cell that was set has its value, and the others are as they were
-  pub cell_put : (n a b : ℕ) (cells : List (Option A)) (w : A) → length cells ≡ n * n → a < n → b < n → (u v : ℕ) → u < n → v < n → cell_at (slice_set cells (a * n + b) (Some w)) (u * n + v) ≡ (if u == a && v == b then Some w else cell_at cells (u * n + v))
+  pub cell_put : (n a b : ℕ) (cells : List (Option A)) (w : A) → length cells ≡ n * n → a < n → b < n → (u v : ℕ) → u < n → v < n → table_cell (slice_set cells (a * n + b) (Some w)) (u * n + v) ≡ (if u == a && v == b then Some w else table_cell cells (u * n + v))
   cell_put n a b cells w size p q u v r s = elim (cases_eq (u * n + v) (a * n + b)) [
     | inl same ↦ here (same_from_place u v a b n s q same)
-    | inr other ↦ get_or-set_other cells (a * n + b) (u * n + v) (Some w) None other ∙ apart other (cell_at cells (u * n + v))
+    | inr other ↦ get_or-set_other cells (a * n + b) (u * n + v) (Some w) None other ∙ apart other (table_cell cells (u * n + v))
   ]
     where
       place : a * n + b < length cells
@@ -209,11 +209,11 @@ module _ {A : Type 0} where
       both : (x y : Option A) → x ≡ (if a == a && b == b then x else y)
       both x y = grind (arith, nat_tests)
 
-      here : (u ≡ a) × (v ≡ b) → cell_at (slice_set cells (a * n + b) (Some w)) (u * n + v) ≡ (if u == a && v == b then Some w else cell_at cells (u * n + v))
+      here : (u ≡ a) × (v ≡ b) → table_cell (slice_set cells (a * n + b) (Some w)) (u * n + v) ≡ (if u == a && v == b then Some w else table_cell cells (u * n + v))
       here e =
-          subst (λ i. cell_at (slice_set cells (a * n + b) (Some w)) (i * n + v) ≡ (if i == a && v == b then Some w else cell_at cells (i * n + v))) (sym e.0)
-          (subst (λ j. cell_at (slice_set cells (a * n + b) (Some w)) (a * n + j) ≡ (if a == a && j == b then Some w else cell_at cells (a * n + j))) (sym e.1)
-          (get_or-set_same cells (a * n + b) (Some w) None place ∙ both (Some w) (cell_at cells (a * n + b))))
+          subst (λ i. table_cell (slice_set cells (a * n + b) (Some w)) (i * n + v) ≡ (if i == a && v == b then Some w else table_cell cells (i * n + v))) (sym e.0)
+          (subst (λ j. table_cell (slice_set cells (a * n + b) (Some w)) (a * n + j) ≡ (if a == a && j == b then Some w else table_cell cells (a * n + j))) (sym e.1)
+          (get_or-set_same cells (a * n + b) (Some w) None place ∙ both (Some w) (table_cell cells (a * n + b))))
 
       other_column : (v ≡ b → ⊥) → (o : Option A) → o ≡ (if u == a && v == b then Some w else o)
       other_column y o = grind (arith, nat_tests)

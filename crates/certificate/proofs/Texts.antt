@@ -11,13 +11,13 @@ use Rattle.apsp_model.specs.Stated.{Stated, Entry, IsEntryOf}
 use Rattle.certificate.specs.declared.CertError.{CertError}
 use Rattle.certificate.specs.declared.CertError.TheVariants.{Shape, Order, Range}
 use Rattle.certificate.specs.Table.{insert_all}
-use Rattle.certificate.specs.Grammar.{named, edge_line, pair_line, head_lines, edge_lines, pair_lines, joined, text_of, IsWritable, IsCertText}
-use Rattle.certificate.specs.Reading.{◌>>=◌, or_shape, Rest, Head, line_at, fixed_line, named_line, vertices_line, count_line, edge_in, pair_in, edge_fits, pair_fits, rises, item_line, items_onto, end_line, head_of, table_of, body_of, stated_by}
+use Rattle.certificate.specs.Grammar.{named, edge_line_text, pair_line_text, head_lines, edge_lines, pair_lines, joined, text_of, IsWritable, IsCertText}
+use Rattle.certificate.specs.Reading.{◌>>=◌, or_shape, Rest, Head, line_at, fixed_line, named_line, vertices_head_line, count_line, edge_in, pair_in, edge_fits, pair_fits, rises, item_line, items_onto, closing_line, head_of, table_of, body_of, stated_by}
 use Rattle.certificate.specs.Answer.{GivesOrMemory}
 use Rattle.certificate.proofs.Cutting.{avoids}
 use Rattle.certificate.proofs.Spellings.{bound, shaped, passed, ok_same, line_again, IsLine, line_parts, fixed_again, fixed_parts, named_line_again, IsNamedLine, named_line_parts}
 use Rattle.certificate.proofs.Maps.{Rising, rising_from_sorted, EachOf, each_weaker, entries_made, made_again, each_of_map, map_of_each}
-use Rattle.certificate.proofs.Counting.{AreEnds, few_pairs}
+use Rattle.certificate.proofs.Counting.{ArePairEnds, few_pairs}
 use Rattle.certificate.proofs.Forms.{IsForm, edges_form, pairs_form, edge_from_test, edge_test, entry_from_test, entry_test}
 
 -- ---- lines that are joined
@@ -162,7 +162,7 @@ record IsHead (r : Rest) (h : Head) : Type 0 where
   some : 1 ≤ h.vertices
   most : h.vertices ≤ MOST_VERTICES
 
-vertices_parts : (r : Rest) (x : ℕ × Rest) → vertices_line r ≡ Ok x → IsNamedLine (codes "vertices") r x.0 x.1 × (1 ≤ x.0) × (x.0 ≤ MOST_VERTICES)
+vertices_parts : (r : Rest) (x : ℕ × Rest) → vertices_head_line r ≡ Ok x → IsNamedLine (codes "vertices") r x.0 x.1 × (1 ≤ x.0) × (x.0 ≤ MOST_VERTICES)
 vertices_parts r x h =
     let b = bound (named_line (codes "vertices") r) (λ n. if nat_le 1 n.0 && nat_le n.0 MOST_VERTICES then Ok n else Err (Range r.number)) x h in
     let t = passed (nat_le 1 b.value.0 && nat_le b.value.0 MOST_VERTICES) b.value x (Range r.number) b.second in
@@ -176,9 +176,9 @@ vertices_parts r x h =
 
 head_parts : (r : Rest) (h : Head) → head_of r ≡ Ok h → IsHead r h
 head_parts r h e =
-    let a = bound (fixed_line (codes "apsp certificate 1") r) (λ a. named_line (codes "number") a >>= (λ k. vertices_line k.1 >>= (λ n. Ok (record { number = k.0; vertices = n.0; rest = n.1 })))) h e in
-    let k = bound (named_line (codes "number") a.value) (λ k. vertices_line k.1 >>= (λ n. Ok (record { number = k.0; vertices = n.0; rest = n.1 }))) h a.second in
-    let n = bound (vertices_line k.value.1) (λ n. Ok (record { number = k.value.0; vertices = n.0; rest = n.1 })) h k.second in
+    let a = bound (fixed_line (codes "apsp certificate 1") r) (λ a. named_line (codes "number") a >>= (λ k. vertices_head_line k.1 >>= (λ n. Ok (record { number = k.0; vertices = n.0; rest = n.1 })))) h e in
+    let k = bound (named_line (codes "number") a.value) (λ k. vertices_head_line k.1 >>= (λ n. Ok (record { number = k.0; vertices = n.0; rest = n.1 }))) h a.second in
+    let n = bound (vertices_head_line k.value.1) (λ n. Ok (record { number = k.value.0; vertices = n.0; rest = n.1 })) h k.second in
     let first : IsLine r (codes "apsp certificate 1") a.value = fixed_parts (codes "apsp certificate 1") r a.value a.first in
     let second : IsNamedLine (codes "number") a.value k.value.0 k.value.1 = named_line_parts (codes "number") a.value k.value k.first in
     let third = vertices_parts k.value.1 n.value n.first in
@@ -194,7 +194,7 @@ head_parts r h e =
     three : (a b c t : List ℕ) → joined (a ∷ b ∷ c ∷ []) ++ t ≡ a ++ 10 ∷ (b ++ 10 ∷ (c ++ 10 ∷ t))
     three a b c t = joined_step a (b ∷ c ∷ []) t ∙ ap (λ r. a ++ 10 ∷ r) (joined_step b (c ∷ []) t ∙ ap (λ r. b ++ 10 ∷ r) (joined_step c [] t))
 
-end_parts : (r : Rest) (u : Unit {0}) → end_line r ≡ Ok u → r.bytes ≡ codes "end" ++ 10 ∷ []
+end_parts : (r : Rest) (u : Unit {0}) → closing_line r ≡ Ok u → r.bytes ≡ codes "end" ++ 10 ∷ []
 end_parts r u e =
     let a = bound (fixed_line (codes "end") r) (λ n. if length n.bytes == 0 then Ok tt else Err (Shape n.number)) u e in
     let line : IsLine r (codes "end") a.value = fixed_parts (codes "end") r a.value a.first in
@@ -221,10 +221,10 @@ text_blocks s = blocks (head_lines s) (edge_lines s) (pair_lines s) (codes "end"
 
 module _ (n : ℕ) (most : n ≤ MOST_VERTICES) (some : 1 ≤ n) where
   abbrev IsEdges : List ℕ → Rest → map.FinMap pair_cmp ℕ → Rest → Type 0
-  IsEdges word r m next = IsTable edge_in (edge_fits n) edge_line (λ _. Unit {0}) (edges_form n most) word n r m next
+  IsEdges word r m next = IsTable edge_in (edge_fits n) edge_line_text (λ _. Unit {0}) (edges_form n most) word n r m next
 
   abbrev IsPairs : List ℕ → Rest → map.FinMap pair_cmp Entry → Rest → Type 0
-  IsPairs word r m next = IsTable pair_in (pair_fits n) pair_line (λ e. e.1.dist < 10 ^ 18) (pairs_form n most) word n r m next
+  IsPairs word r m next = IsTable pair_in (pair_fits n) pair_line_text (λ e. e.1.dist < 10 ^ 18) (pairs_form n most) word n r m next
 
   record IsBlock {V : Type 0} (word : List ℕ) (line : (ℕ × ℕ) × V → List ℕ) (P : (ℕ × ℕ) × V → Type 0) (r : Rest) (m : map.FinMap pair_cmp V) (next : Rest) : Type 0 where
     bytes : r.bytes ≡ joined (named word (map.len m) ∷ each line (map.entries m)) ++ next.bytes
@@ -239,26 +239,26 @@ module _ (n : ℕ) (most : n ≤ MOST_VERTICES) (some : 1 ≤ n) where
         all = map_of_each P m (subst (EachOf P) (sym same) all);
       }
 
-  edges_block : (r : Rest) (x : map.FinMap pair_cmp ℕ × Rest) → table_of (codes "edges") edge_in (edge_fits n) n r ≡ Ok x → IsBlock (codes "edges") edge_line (λ e. IsEdgeOf n e.0.0 e.0.1 e.1) r x.0 x.1
+  edges_block : (r : Rest) (x : map.FinMap pair_cmp ℕ × Rest) → table_of (codes "edges") edge_in (edge_fits n) n r ≡ Ok x → IsBlock (codes "edges") edge_line_text (λ e. IsEdgeOf n e.0.0 e.0.1 e.1) r x.0 x.1
   edges_block r x h =
-      let t : IsEdges (codes "edges") r x.0 x.1 = table_parts edge_in (edge_fits n) edge_line (λ _. Unit {0}) (edges_form n most) (codes "edges") n r x h in
-      block (codes "edges") edge_line (λ e. IsEdgeOf n e.0.0 e.0.1 e.1) r x.0 x.1 t.items t.bytes (each_weaker _ (λ e. IsEdgeOf n e.0.0 e.0.1 e.1) t.items (λ e i. edge_from_test n e i.fit) t.all) t.rising t.made
+      let t : IsEdges (codes "edges") r x.0 x.1 = table_parts edge_in (edge_fits n) edge_line_text (λ _. Unit {0}) (edges_form n most) (codes "edges") n r x h in
+      block (codes "edges") edge_line_text (λ e. IsEdgeOf n e.0.0 e.0.1 e.1) r x.0 x.1 t.items t.bytes (each_weaker _ (λ e. IsEdgeOf n e.0.0 e.0.1 e.1) t.items (λ e i. edge_from_test n e i.fit) t.all) t.rising t.made
 
   record IsFewEntry (e : (ℕ × ℕ) × Entry) : Type 0 where
     entry : IsEntryOf n e.0.0 e.0.1 e.1
     few : e.1.dist < 10 ^ 18
 
-  pairs_block : (r : Rest) (x : map.FinMap pair_cmp Entry × Rest) → table_of (codes "pairs") pair_in (pair_fits n) n r ≡ Ok x → IsBlock (codes "pairs") pair_line IsFewEntry r x.0 x.1
+  pairs_block : (r : Rest) (x : map.FinMap pair_cmp Entry × Rest) → table_of (codes "pairs") pair_in (pair_fits n) n r ≡ Ok x → IsBlock (codes "pairs") pair_line_text IsFewEntry r x.0 x.1
   pairs_block r x h =
-      let t : IsPairs (codes "pairs") r x.0 x.1 = table_parts pair_in (pair_fits n) pair_line (λ e. e.1.dist < 10 ^ 18) (pairs_form n most) (codes "pairs") n r x h in
-      block (codes "pairs") pair_line IsFewEntry r x.0 x.1 t.items t.bytes (each_weaker _ IsFewEntry t.items (λ e i. record { entry = entry_from_test n e i.fit; few = i.few }) t.all) t.rising t.made
+      let t : IsPairs (codes "pairs") r x.0 x.1 = table_parts pair_in (pair_fits n) pair_line_text (λ e. e.1.dist < 10 ^ 18) (pairs_form n most) (codes "pairs") n r x h in
+      block (codes "pairs") pair_line_text IsFewEntry r x.0 x.1 t.items t.bytes (each_weaker _ IsFewEntry t.items (λ e i. record { entry = entry_from_test n e i.fit; few = i.few }) t.all) t.rising t.made
 
 body_text : (h : Head) (s : Stated) (bytes : List ℕ) → h.number < 10 ^ 18 → 1 ≤ h.vertices → h.vertices ≤ MOST_VERTICES → bytes ≡ joined (codes "apsp certificate 1" ∷ named (codes "number") h.number ∷ named (codes "vertices") h.vertices ∷ []) ++ h.rest.bytes → body_of h ≡ Ok s → IsCertText s bytes
 body_text h s bytes small some most front e =
     let n = h.vertices in
-    let E = bound (table_of (codes "edges") edge_in (edge_fits n) n h.rest) (λ es. table_of (codes "pairs") pair_in (pair_fits n) n es.1 >>= (λ ps. end_line ps.1 >>= (λ _. Ok (record { number = h.number; graph = record { vertices = n; edges = es.0 }; entries = ps.0 })))) s e in
-    let P = bound (table_of (codes "pairs") pair_in (pair_fits n) n E.value.1) (λ ps. end_line ps.1 >>= (λ _. Ok (record { number = h.number; graph = record { vertices = n; edges = E.value.0 }; entries = ps.0 }))) s E.second in
-    let D = bound (end_line P.value.1) (λ _. Ok (record { number = h.number; graph = record { vertices = n; edges = E.value.0 }; entries = P.value.0 })) s P.second in
+    let E = bound (table_of (codes "edges") edge_in (edge_fits n) n h.rest) (λ es. table_of (codes "pairs") pair_in (pair_fits n) n es.1 >>= (λ ps. closing_line ps.1 >>= (λ _. Ok (record { number = h.number; graph = record { vertices = n; edges = es.0 }; entries = ps.0 })))) s e in
+    let P = bound (table_of (codes "pairs") pair_in (pair_fits n) n E.value.1) (λ ps. closing_line ps.1 >>= (λ _. Ok (record { number = h.number; graph = record { vertices = n; edges = E.value.0 }; entries = ps.0 }))) s E.second in
+    let D = bound (closing_line P.value.1) (λ _. Ok (record { number = h.number; graph = record { vertices = n; edges = E.value.0 }; entries = P.value.0 })) s P.second in
     let edges = edges_block n most some h.rest E.value E.first in
     let pairs = pairs_block n most some E.value.1 P.value P.first in
     let end = end_parts P.value.1 D.value D.first in
@@ -271,7 +271,7 @@ body_text h s bytes small some most front e =
         number = small;
         dists = λ x y d f. (pairs.all (x, y) d f).few;
       };
-      text = front ∙ ap (λ r. joined (codes "apsp certificate 1" ∷ named (codes "number") h.number ∷ named (codes "vertices") n ∷ []) ++ r) (edges.bytes ∙ ap (λ r. joined (named (codes "edges") (map.len E.value.0) ∷ each edge_line (map.entries E.value.0)) ++ r) (pairs.bytes ∙ ap (λ r. joined (named (codes "pairs") (map.len P.value.0) ∷ each pair_line (map.entries P.value.0)) ++ r) end))
+      text = front ∙ ap (λ r. joined (codes "apsp certificate 1" ∷ named (codes "number") h.number ∷ named (codes "vertices") n ∷ []) ++ r) (edges.bytes ∙ ap (λ r. joined (named (codes "edges") (map.len E.value.0) ∷ each edge_line_text (map.entries E.value.0)) ++ r) (pairs.bytes ∙ ap (λ r. joined (named (codes "pairs") (map.len P.value.0) ∷ each pair_line_text (map.entries P.value.0)) ++ r) end))
           ∙ sym (text_blocks (record { number = h.number; graph = record { vertices = n; edges = E.value.0 }; entries = P.value.0 }));
     })
 
@@ -286,12 +286,12 @@ text_parts bytes s e =
 
 head_again : (k n : ℕ) (t : List ℕ) → k < 10 ^ 18 → 1 ≤ n → n ≤ MOST_VERTICES → head_of (record { number = 1; bytes = joined (codes "apsp certificate 1" ∷ named (codes "number") k ∷ named (codes "vertices") n ∷ []) ++ t }) ≡ Ok (record { number = k; vertices = n; rest = record { number = 4; bytes = t } })
 head_again k n t small some most =
-    let third : vertices_line (record { number = 3; bytes = named (codes "vertices") n ++ 10 ∷ t }) ≡ Ok (n, record { number = 4; bytes = t }) =
+    let third : vertices_head_line (record { number = 3; bytes = named (codes "vertices") n ++ 10 ∷ t }) ≡ Ok (n, record { number = 4; bytes = t }) =
     ap (λ (o : Result (ℕ × Rest) CertError). o >>= (λ n. if nat_le 1 n.0 && nat_le n.0 MOST_VERTICES then Ok n else Err (Range 3))) (named_line_again 3 (codes "vertices") n t refl refl (omega (arith, most)))
     ∙ tested (nat_le 1 n && nat_le n MOST_VERTICES) (n, record { number = 4; bytes = t }) (within n some most) in
     ap (λ b. head_of (record { number = 1; bytes = b })) (three (codes "apsp certificate 1") (named (codes "number") k) (named (codes "vertices") n) t)
-    ∙ ap (λ (o : Result Rest CertError). o >>= (λ a. named_line (codes "number") a >>= (λ k. vertices_line k.1 >>= (λ n. Ok (record { number = k.0; vertices = n.0; rest = n.1 }))))) (fixed_again 1 (codes "apsp certificate 1") (named (codes "number") k ++ 10 ∷ (named (codes "vertices") n ++ 10 ∷ t)) refl)
-    ∙ ap (λ (o : Result (ℕ × Rest) CertError). o >>= (λ k. vertices_line k.1 >>= (λ n. Ok (record { number = k.0; vertices = n.0; rest = n.1 })))) (named_line_again 2 (codes "number") k (named (codes "vertices") n ++ 10 ∷ t) refl refl small)
+    ∙ ap (λ (o : Result Rest CertError). o >>= (λ a. named_line (codes "number") a >>= (λ k. vertices_head_line k.1 >>= (λ n. Ok (record { number = k.0; vertices = n.0; rest = n.1 }))))) (fixed_again 1 (codes "apsp certificate 1") (named (codes "number") k ++ 10 ∷ (named (codes "vertices") n ++ 10 ∷ t)) refl)
+    ∙ ap (λ (o : Result (ℕ × Rest) CertError). o >>= (λ k. vertices_head_line k.1 >>= (λ n. Ok (record { number = k.0; vertices = n.0; rest = n.1 })))) (named_line_again 2 (codes "number") k (named (codes "vertices") n ++ 10 ∷ t) refl refl small)
     ∙ ap (λ (o : Result (ℕ × Rest) CertError). o >>= (λ n. Ok (record { number = k; vertices = n.0; rest = n.1 }))) third
   where
     three : (a b c t : List ℕ) → joined (a ∷ b ∷ c ∷ []) ++ t ≡ a ++ 10 ∷ (b ++ 10 ∷ (c ++ 10 ∷ t))
@@ -304,7 +304,7 @@ head_again k n t small some most =
     within : (n : ℕ) → 1 ≤ n → n ≤ 128 → (nat_le 1 n && nat_le n 128) ≡ true
     within n p q = grind (arith, nat_tests)
 
-end_again : (number : ℕ) → end_line (record { number = number; bytes = codes "end" ++ 10 ∷ [] }) ≡ Ok tt
+end_again : (number : ℕ) → closing_line (record { number = number; bytes = codes "end" ++ 10 ∷ [] }) ≡ Ok tt
 end_again number = ap (λ (o : Result Rest CertError). o >>= (λ e. if length e.bytes == 0 then Ok tt else Err (Shape e.number))) (fixed_again number (codes "end") [] refl)
 
 few_digits : (n k : ℕ) → n ≤ MOST_VERTICES → k ≤ n * (n - 1) → k < 10 ^ 18
@@ -316,10 +316,10 @@ edges_again s number t w =
     let es = map.entries s.graph.edges in
     let rising : Rising None es = rising_from_sorted es (map.entries_sorted s.graph.edges) in
     let edges : EachOf (λ e. IsEdgeOf n e.0.0 e.0.1 e.1) es = each_of_map (λ e. IsEdgeOf n e.0.0 e.0.1 e.1) s.graph.edges (λ q v f. w.range.graph.edges q.0 q.1 v f) in
-    let few : length es ≤ n * (n - 1) = few_pairs n es (each_weaker (λ e. IsEdgeOf n e.0.0 e.0.1 e.1) (λ e. AreEnds n e.0) es (λ e i. record { from = i.from; to = i.to; apart = i.apart }) edges) rising in
-    let again = table_again edge_in (edge_fits n) edge_line (λ _. Unit {0}) (edges_form n w.range.graph.most) (codes "edges") n es number t refl refl few (few_digits n (length es) w.range.graph.most few) (each_weaker (λ e. IsEdgeOf n e.0.0 e.0.1 e.1) _ es (λ e i. record { fit = edge_test n e i; few = tt }) edges) rising in (
+    let few : length es ≤ n * (n - 1) = few_pairs n es (each_weaker (λ e. IsEdgeOf n e.0.0 e.0.1 e.1) (λ e. ArePairEnds n e.0) es (λ e i. record { from = i.from; to = i.to; apart = i.apart }) edges) rising in
+    let again = table_again edge_in (edge_fits n) edge_line_text (λ _. Unit {0}) (edges_form n w.range.graph.most) (codes "edges") n es number t refl refl few (few_digits n (length es) w.range.graph.most few) (each_weaker (λ e. IsEdgeOf n e.0.0 e.0.1 e.1) _ es (λ e i. record { fit = edge_test n e i; few = tt }) edges) rising in (
       again.0,
-      ap (λ k. table_of (codes "edges") edge_in (edge_fits n) n (record { number = number; bytes = joined (named (codes "edges") k ∷ each edge_line es) ++ t })) (map.len-entries s.graph.edges)
+      ap (λ k. table_of (codes "edges") edge_in (edge_fits n) n (record { number = number; bytes = joined (named (codes "edges") k ∷ each edge_line_text es) ++ t })) (map.len-entries s.graph.edges)
           ∙ again.1
           ∙ ap (λ (m : map.FinMap pair_cmp ℕ). Ok (m, record { number = again.0; bytes = t })) (made_again s.graph.edges),
     )
@@ -330,10 +330,10 @@ pairs_again s number t w =
     let es = map.entries s.entries in
     let rising : Rising None es = rising_from_sorted es (map.entries_sorted s.entries) in
     let pairs : EachOf (IsFewEntry n w.range.graph.most w.range.graph.some) es = each_of_map (IsFewEntry n w.range.graph.most w.range.graph.some) s.entries (λ q v f. record { entry = w.range.entries q.0 q.1 v f; few = w.dists q.0 q.1 v f }) in
-    let few : length es ≤ n * (n - 1) = few_pairs n es (each_weaker (IsFewEntry n w.range.graph.most w.range.graph.some) (λ e. AreEnds n e.0) es (λ e i. record { from = i.entry.from; to = i.entry.to; apart = i.entry.apart }) pairs) rising in
-    let again = table_again pair_in (pair_fits n) pair_line (λ e. e.1.dist < 10 ^ 18) (pairs_form n w.range.graph.most) (codes "pairs") n es number t refl refl few (few_digits n (length es) w.range.graph.most few) (each_weaker (IsFewEntry n w.range.graph.most w.range.graph.some) _ es (λ e i. record { fit = entry_test n e i.entry; few = i.few }) pairs) rising in (
+    let few : length es ≤ n * (n - 1) = few_pairs n es (each_weaker (IsFewEntry n w.range.graph.most w.range.graph.some) (λ e. ArePairEnds n e.0) es (λ e i. record { from = i.entry.from; to = i.entry.to; apart = i.entry.apart }) pairs) rising in
+    let again = table_again pair_in (pair_fits n) pair_line_text (λ e. e.1.dist < 10 ^ 18) (pairs_form n w.range.graph.most) (codes "pairs") n es number t refl refl few (few_digits n (length es) w.range.graph.most few) (each_weaker (IsFewEntry n w.range.graph.most w.range.graph.some) _ es (λ e i. record { fit = entry_test n e i.entry; few = i.few }) pairs) rising in (
       again.0,
-      ap (λ k. table_of (codes "pairs") pair_in (pair_fits n) n (record { number = number; bytes = joined (named (codes "pairs") k ∷ each pair_line es) ++ t })) (map.len-entries s.entries)
+      ap (λ k. table_of (codes "pairs") pair_in (pair_fits n) n (record { number = number; bytes = joined (named (codes "pairs") k ∷ each pair_line_text es) ++ t })) (map.len-entries s.entries)
           ∙ again.1
           ∙ ap (λ (m : map.FinMap pair_cmp Entry). Ok (m, record { number = again.0; bytes = t })) (made_again s.entries),
     )
@@ -343,8 +343,8 @@ body_again s w =
     let n = s.graph.vertices in
     let edges = edges_again s 4 (joined (pair_lines s) ++ (codes "end" ++ 10 ∷ [])) w in
     let pairs = pairs_again s edges.0 (codes "end" ++ 10 ∷ []) w in
-    ap (λ (o : Result (map.FinMap pair_cmp ℕ × Rest) CertError). o >>= (λ es. table_of (codes "pairs") pair_in (pair_fits n) n es.1 >>= (λ ps. end_line ps.1 >>= (λ _. Ok (record { number = s.number; graph = record { vertices = n; edges = es.0 }; entries = ps.0 }))))) edges.1
-    ∙ ap (λ (o : Result (map.FinMap pair_cmp Entry × Rest) CertError). o >>= (λ ps. end_line ps.1 >>= (λ _. Ok (record { number = s.number; graph = record { vertices = n; edges = s.graph.edges }; entries = ps.0 })))) pairs.1
+    ap (λ (o : Result (map.FinMap pair_cmp ℕ × Rest) CertError). o >>= (λ es. table_of (codes "pairs") pair_in (pair_fits n) n es.1 >>= (λ ps. closing_line ps.1 >>= (λ _. Ok (record { number = s.number; graph = record { vertices = n; edges = es.0 }; entries = ps.0 }))))) edges.1
+    ∙ ap (λ (o : Result (map.FinMap pair_cmp Entry × Rest) CertError). o >>= (λ ps. closing_line ps.1 >>= (λ _. Ok (record { number = s.number; graph = record { vertices = n; edges = s.graph.edges }; entries = ps.0 })))) pairs.1
     ∙ ap (λ (o : Result (Unit {0}) CertError). o >>= (λ _. Ok (record { number = s.number; graph = record { vertices = n; edges = s.graph.edges }; entries = s.entries }))) (end_again pairs.0)
 
 pub text_again : (s : Stated) → IsWritable s → stated_by (text_of s) ≡ Ok s

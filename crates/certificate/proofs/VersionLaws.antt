@@ -14,7 +14,7 @@ use Rattle.apsp_model.proofs.Leasts.{least_unique, least_is_simple, least_of_ver
 use Rattle.apsp_model.proofs.Simples.{simple_walk_is_short, weight_most}
 use Rattle.apsp_model.proofs.Stars.{pairs_total, exact_pair}
 use Rattle.apsp_model.proofs.Walks.{walk_head}
-use Rattle.version_face.specs.Seen.{Seen}
+use Rattle.version_face.specs.Seen.{VersionSeen}
 use Rattle.version_face.specs.Entries.{second_of}
 use Rattle.certificate.specs.Grammar.{IsWritable}
 use Rattle.certificate.specs.Giving.{StatedEntryIs, IsStatedOf}
@@ -30,7 +30,7 @@ some_same x y e = cc
 
 -- ---- one value
 
-module _ (v : Seen) (s : Stated) (is : IsStatedOf v s) where
+module _ (v : VersionSeen) (s : Stated) (is : IsStatedOf v s) where
   entry_there : (x y : ℕ) → x < v.graph.vertices → y < v.graph.vertices → x ≢ y → map.get s.entries (x, y) ≡ entry_of v.graph (least_is_some_option v.graph x y).0
   entry_there x y p q apart = entry_is v.graph x y (map.get s.entries (x, y)) (least_is_some_option v.graph x y).0 (is.entries x y p q apart) (least_is_some_option v.graph x y).1
 
@@ -38,7 +38,7 @@ module _ (v : Seen) (s : Stated) (is : IsStatedOf v s) where
   entry_outside x y out = none_or_some (map.get s.entries (x, y)) (map.get s.entries (x, y) ≡ None) (λ e. e) (λ w e. absurd (let i = is.inside x y w e in out i.0 i.1 i.2))
 
 -- a version states one value
-pub one_stated_of : (v : Seen) (s t : Stated) → IsStatedOf v s → IsStatedOf v t → s ≡ t
+pub one_stated_of : (v : VersionSeen) (s t : Stated) → IsStatedOf v s → IsStatedOf v t → s ≡ t
 one_stated_of v s t h k =
     let number : s.number ≡ t.number = h.number ∙ sym k.number in
     let graph : s.graph ≡ t.graph = h.graph ∙ sym k.graph in
@@ -74,7 +74,7 @@ ends_differ g x y a z q h same =
     let alone : a ∷ z ∷ q ≡ x ∷ [] = least_unique g x x (a ∷ z ∷ q) (x ∷ []) (subst (λ j. IsLeast g x j (a ∷ z ∷ q)) (sym same) h) (least_of_vertex g x inside) in
     cc
 
-module _ (v : Seen) (s : Stated) (is : IsStatedOf v s) where
+module _ (v : VersionSeen) (s : Stated) (is : IsStatedOf v s) where
   entry_of_walk : (x y : ℕ) (p : List ℕ) → x < v.graph.vertices → y < v.graph.vertices → x ≢ y → IsLeast v.graph x y p → entry_at s x y ≡ entry_of v.graph (Some p)
   entry_of_walk x y p a b apart least = ap (λ c. if c then Some (record { dist = 0; hops = 0; next = x }) else map.get s.entries (x, y)) (ne_eqb x y apart) ∙ entry_is v.graph x y (map.get s.entries (x, y)) (Some p) (is.entries x y a b apart) least
 
@@ -147,7 +147,7 @@ walk_entry g x y (c ∷ z ∷ q) graph a b apart least =
     no_loop (Some w) e h same = (graph.edges c z w e).apart same
 
 -- .. and can be written
-pub writable_of : (v : Seen) (s : Stated) → IsGraph v.graph → v.number < 10 ^ 18 → IsStatedOf v s → IsWritable s
+pub writable_of : (v : VersionSeen) (s : Stated) → IsGraph v.graph → v.number < 10 ^ 18 → IsStatedOf v s → IsWritable s
 writable_of v s graph small is = record {
   range = record {
     graph = subst IsGraph (sym is.graph) graph;

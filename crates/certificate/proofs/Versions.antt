@@ -14,10 +14,10 @@ use Rattle.apsp_model.proofs.Leasts.{least_unique, least_is_simple}
 use Rattle.apsp_model.proofs.Simples.{simple_walk_is_short, weight_most}
 use Rattle.apsp_model.proofs.Stars.{pairs_total, exact_pair}
 use Rattle.version_face.specs.declared.TheConstants.{NO_DISTANCE}
-use Rattle.version_face.specs.Seen.{Seen, DistIs, HopsIs, NextIs}
+use Rattle.version_face.specs.Seen.{VersionSeen, DistIs, HopsIs, NextIs}
 use Rattle.version_face.specs.Entries.{second_of, dist_in, hops_in, next_in}
-use Rattle.certificate.specs.Table.{map_of}
-use Rattle.certificate.specs.Grammar.{named, edge_line, pair_line, head_lines, pair_lines, joined, text_of}
+use Rattle.certificate.specs.Table.{table_map}
+use Rattle.certificate.specs.Grammar.{named, edge_line_text, pair_line_text, head_lines, pair_lines, joined, text_of}
 use Rattle.certificate.specs.Giving.{StatedEntryIs, IsStatedOf}
 use Rattle.certificate.specs.Writing.{table_text, edge_items, pair_items, IsEntryTable}
 use Rattle.certificate.proofs.Tables.{entries-map_of, get_inside, get_outside, cases_inside}
@@ -92,19 +92,19 @@ table_is g = record {
 -- ---- what a version states, and its text
 
 -- what a version states, with its text in the tables that are given
-pub record IsStatedText (v : Seen) : Type 0 where
+pub record IsStatedText (v : VersionSeen) : Type 0 where
   pub stated : Stated
   pub is : IsStatedOf v stated
   pub table : ℕ → ℕ → Option Entry
   pub entries : IsEntryTable v.graph table
-  pub text : text_of stated ≡ joined (codes "apsp certificate 1" ∷ named (codes "number") v.number ∷ named (codes "vertices") v.graph.vertices ∷ []) ++ (table_text (codes "edges") edge_line (edge_items v.graph) ++ (table_text (codes "pairs") pair_line (pair_items v.graph table) ++ (codes "end" ++ 10 ∷ [])))
+  pub text : text_of stated ≡ joined (codes "apsp certificate 1" ∷ named (codes "number") v.number ∷ named (codes "vertices") v.graph.vertices ∷ []) ++ (table_text (codes "edges") edge_line_text (edge_items v.graph) ++ (table_text (codes "pairs") pair_line_text (pair_items v.graph table) ++ (codes "end" ++ 10 ∷ [])))
 
 none_or_some : {V : Type 0} (o : Option V) (P : Type 0) → (o ≡ None → P) → ((w : V) → o ≡ Some w → P) → P
 none_or_some None P a b = a refl
 none_or_some (Some w) P a b = b w refl
 
-edges_are : (g : Graph) → IsGraph g → map_of g.vertices (weight_at g) ≡ g.edges
-edges_are g graph = map.same_map pairs_total exact_pair (map_of g.vertices (weight_at g)) g.edges (λ q. elim (cases_inside g.vertices q.0 q.1) [
+edges_are : (g : Graph) → IsGraph g → table_map g.vertices (weight_at g) ≡ g.edges
+edges_are g graph = map.same_map pairs_total exact_pair (table_map g.vertices (weight_at g)) g.edges (λ q. elim (cases_inside g.vertices q.0 q.1) [
   | inl i ↦ get_inside g.vertices (weight_at g) q.0 q.1 i.0 i.1
   | inr o ↦ get_outside g.vertices (weight_at g) q.0 q.1 o ∙ none_or_some (weight_at g q.0 q.1) (None ≡ weight_at g q.0 q.1) (λ e. sym e) (λ w e. absurd (o (graph.edges q.0 q.1 w e).from (graph.edges q.0 q.1 w e).to))
 ])
@@ -113,11 +113,11 @@ table_lines : {V : Type 0} (word : List ℕ) (line : (ℕ × ℕ) × V → List 
 table_lines word line m items e = ap (λ k. joined (named word k ∷ each line (map.entries m))) (map.len-entries m) ∙ ap (λ es. joined (named word (length es) ∷ each line es)) e
 
 -- what a version states
-abbrev pub value_of : Seen → Stated
-value_of v = record { number = v.number; graph = v.graph; entries = map_of v.graph.vertices (entry_table v.graph) }
+abbrev pub value_of : VersionSeen → Stated
+value_of v = record { number = v.number; graph = v.graph; entries = table_map v.graph.vertices (entry_table v.graph) }
 
 -- .. is stated of it
-pub value_is : (v : Seen) → IsStatedOf v (value_of v)
+pub value_is : (v : VersionSeen) → IsStatedOf v (value_of v)
 value_is v =
     let g = v.graph in
     let f = entry_table g in
@@ -135,7 +135,7 @@ value_is v =
     none_some e h = cc
 
 -- each version of a graph states a value that has its text
-pub stated_text : (v : Seen) → IsGraph v.graph → IsStatedText v
+pub stated_text : (v : VersionSeen) → IsGraph v.graph → IsStatedText v
 stated_text v graph =
     let g = v.graph in
     let f = entry_table g in
@@ -145,6 +145,6 @@ stated_text v graph =
       is = value_is v;
       table = f;
       entries = table_is g;
-      text = text_blocks s ∙ ap (λ r. joined (head_lines s) ++ (r ++ (joined (pair_lines s) ++ (codes "end" ++ 10 ∷ [])))) (table_lines (codes "edges") edge_line g.edges (edge_items g) (ap map.entries (sym (edges_are g graph)) ∙ entries-map_of g.vertices (weight_at g)))
-          ∙ ap (λ r. joined (head_lines s) ++ (table_text (codes "edges") edge_line (edge_items g) ++ (r ++ (codes "end" ++ 10 ∷ [])))) (table_lines (codes "pairs") pair_line (map_of g.vertices f) (pair_items g f) (entries-map_of g.vertices f));
+      text = text_blocks s ∙ ap (λ r. joined (head_lines s) ++ (r ++ (joined (pair_lines s) ++ (codes "end" ++ 10 ∷ [])))) (table_lines (codes "edges") edge_line_text g.edges (edge_items g) (ap map.entries (sym (edges_are g graph)) ∙ entries-map_of g.vertices (weight_at g)))
+          ∙ ap (λ r. joined (head_lines s) ++ (table_text (codes "edges") edge_line_text (edge_items g) ++ (r ++ (codes "end" ++ 10 ∷ [])))) (table_lines (codes "pairs") pair_line_text (table_map g.vertices f) (pair_items g f) (entries-map_of g.vertices f));
     }

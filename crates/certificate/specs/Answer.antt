@@ -8,10 +8,10 @@ use Rattle.certificate.specs.declared.CertError.TheVariants.{Shape, Order, Range
 use Rattle.certificate.specs.declared.lines.Lines.{Lines}
 use Rattle.certificate.specs.declared.items.Edge.{Edge}
 use Rattle.certificate.specs.declared.items.Pair.{Pair}
-use Rattle.certificate.specs.Reading.{Rest, edge_of, pair_of, pair_fits, edge_fits, edge_in, pair_in, table_of}
+use Rattle.certificate.specs.Reading.{Rest, edge_of_numbers, pair_of_numbers, pair_fits, edge_fits, edge_in, pair_in, table_of}
 
-abbrev pub rest_of : Lines → Rest
-rest_of l = record { number = l.number; bytes = l.bytes.now }
+abbrev pub rest_behind : Lines → Rest
+rest_behind l = record { number = l.number; bytes = l.bytes.now }
 
 -- the answer, seen by view, is what was read
 abbrev pub Gives : {X Y : Type 0} → (X → Y) → Result X CertError → Result Y CertError → Type 0
@@ -49,16 +49,16 @@ if_fits fits (Some p) = if fits p then Some p else None
 
 -- the edge that three numbers say, and the entry that five say, if they are in range
 abbrev pub IsEdgeWithin : ℕ → List ℕ → Option Edge → Type 0
-IsEdgeWithin n numbers result = option_map edge_item result ≡ if_fits (edge_fits n) (edge_of numbers)
+IsEdgeWithin n numbers result = option_map edge_item result ≡ if_fits (edge_fits n) (edge_of_numbers numbers)
 
 abbrev pub IsPairWithin : ℕ → List ℕ → Option Pair → Type 0
-IsPairWithin n numbers result = option_map pair_item result ≡ if_fits (pair_fits n) (pair_of numbers)
+IsPairWithin n numbers result = option_map pair_item result ≡ if_fits (pair_fits n) (pair_of_numbers numbers)
 
 -- what reading a table leaves: the map of its items in place of the empty one, or the first fault
 abbrev pub ReadsEdges : Stated → Stated → Result Lines CertError → Rest → Type 0
 ReadsEdges old new (Ok r) rest =
     table_of (codes "edges") edge_in (edge_fits old.graph.vertices) old.graph.vertices rest
-    ≡ Ok (new.graph.edges, rest_of r)
+    ≡ Ok (new.graph.edges, rest_behind r)
     × (new ≡ record old { graph = record old.graph { edges = new.graph.edges } })
 ReadsEdges old new (Err e) rest =
     table_of (codes "edges") edge_in (edge_fits old.graph.vertices) old.graph.vertices rest ≡ Err e
@@ -66,7 +66,7 @@ ReadsEdges old new (Err e) rest =
 abbrev pub ReadsPairs : Stated → Stated → Result Lines CertError → Rest → Type 0
 ReadsPairs old new (Ok r) rest =
     table_of (codes "pairs") pair_in (pair_fits old.graph.vertices) old.graph.vertices rest
-    ≡ Ok (new.entries, rest_of r)
+    ≡ Ok (new.entries, rest_behind r)
     × (new ≡ record old { entries = new.entries })
 ReadsPairs old new (Err e) rest =
     table_of (codes "pairs") pair_in (pair_fits old.graph.vertices) old.graph.vertices rest ≡ Err e

@@ -1,7 +1,8 @@
 -- Bytes that are cut at the first of a kind, and the numbers of a line.
 use Rattle.std.specs.Prelude.{ℕ, zero, suc, ◌==◌, if◌then◌else◌, List, [], ◌∷◌, Option, Some, None}
 use Rattle.std.specs.Str.{bytes_eq}
-use Rattle.certificate.specs.Numbers.{number_of}
+use Rattle.numerals.specs.Numbers.{number_of}
+use Rattle.certificate.specs.declared.TheConstants.{MOST_DIGITS}
 
 -- a byte before the front
 abbrev pub onto_front : ℕ → Option (List ℕ × List ℕ) → Option (List ℕ × List ℕ)
@@ -20,15 +21,15 @@ Some x and_then f = f x
 
 -- the number before the first such byte, and what stands behind it
 abbrev pub number_before : ℕ → List ℕ → Option (ℕ × List ℕ)
-number_before c s = cut c s and_then (λ p. number_of p.0 and_then (λ k. Some (k, p.1)))
+number_before c s = cut c s and_then (λ p. number_of MOST_DIGITS p.0 and_then (λ k. Some (k, p.1)))
 
 -- the number behind a word and a space
 abbrev pub number_behind : List ℕ → List ℕ → Option ℕ
-number_behind word s = cut 32 s and_then (λ p. if bytes_eq p.0 word then number_of p.1 else None)
+number_behind word s = cut 32 s and_then (λ p. if bytes_eq p.0 word then number_of MOST_DIGITS p.1 else None)
 
 -- so many numbers with one space between each two
 abbrev pub numbers_in : ℕ → List ℕ → Option (List ℕ)
 numbers_in zero s = None
-numbers_in (suc zero) s = number_of s and_then (λ k. Some (k ∷ []))
+numbers_in (suc zero) s = number_of MOST_DIGITS s and_then (λ k. Some (k ∷ []))
 numbers_in (suc (suc n)) s =
     number_before 32 s and_then (λ a. numbers_in (suc n) a.1 and_then (λ ks. Some (a.0 ∷ ks)))

@@ -9,7 +9,7 @@ use Rattle.apsp_model.specs.Stated.{Stated, Entry}
 use Rattle.apsp_io.specs.Streams.{Rose, GrowsByPrefix}
 use Rattle.apsp_io.specs.declared.sink.GiveError.{GiveError}
 use Rattle.apsp_io.specs.declared.sink.GiveError.TheVariants as give
-use Rattle.version_face.specs.Seen.{Seen}
+use Rattle.version_face.specs.Seen.{VersionSeen}
 use Rattle.version_face.specs.Entries.{second_of}
 
 -- the stated entry of a pair is that of its least walk
@@ -19,7 +19,7 @@ StatedEntryIs g x y (Some e) =
     (p : List ℕ) × IsLeast g x y p × (e ≡ record { dist = weight_of g p; hops = hops_of p; next = second_of p })
 
 -- what is stated is the version: its number, its graph, and the entries of its pairs of different vertices
-pub record IsStatedOf (v : Seen) (s : Stated) : Type 0 where
+pub record IsStatedOf (v : VersionSeen) (s : Stated) : Type 0 where
   pub number : s.number ≡ v.number
   pub graph : s.graph ≡ v.graph
   pub inside : (x y : ℕ) (e : Entry) → map.get s.entries (x, y) ≡ Some e →

@@ -17,31 +17,31 @@ spaced (k ∷ l ∷ ks) = decimal k ++ 32 ∷ spaced (l ∷ ks)
 abbrev pub named : List ℕ → ℕ → List ℕ
 named word k = word ++ 32 ∷ decimal k
 
-abbrev pub edge_line : (ℕ × ℕ) × ℕ → List ℕ
-edge_line e = spaced (e.0.0 ∷ e.0.1 ∷ e.1 ∷ [])
+abbrev pub edge_line_text : (ℕ × ℕ) × ℕ → List ℕ
+edge_line_text e = spaced (e.0.0 ∷ e.0.1 ∷ e.1 ∷ [])
 
-abbrev pub pair_line : (ℕ × ℕ) × Entry → List ℕ
-pair_line e = spaced (e.0.0 ∷ e.0.1 ∷ e.1.dist ∷ e.1.hops ∷ e.1.next ∷ [])
+abbrev pub pair_line_text : (ℕ × ℕ) × Entry → List ℕ
+pair_line_text e = spaced (e.0.0 ∷ e.0.1 ∷ e.1.dist ∷ e.1.hops ∷ e.1.next ∷ [])
 
 abbrev pub head_lines : Stated → List (List ℕ)
 head_lines s =
     codes "apsp certificate 1" ∷ named (codes "number") s.number ∷ named (codes "vertices") s.graph.vertices ∷ []
 
 abbrev pub edge_lines : Stated → List (List ℕ)
-edge_lines s = named (codes "edges") (map.len s.graph.edges) ∷ each edge_line (map.entries s.graph.edges)
+edge_lines s = named (codes "edges") (map.len s.graph.edges) ∷ each edge_line_text (map.entries s.graph.edges)
 
 abbrev pub pair_lines : Stated → List (List ℕ)
-pair_lines s = named (codes "pairs") (map.len s.entries) ∷ each pair_line (map.entries s.entries)
+pair_lines s = named (codes "pairs") (map.len s.entries) ∷ each pair_line_text (map.entries s.entries)
 
-abbrev pub lines_of : Stated → List (List ℕ)
-lines_of s = head_lines s ++ (edge_lines s ++ (pair_lines s ++ codes "end" ∷ []))
+abbrev pub certificate_lines : Stated → List (List ℕ)
+certificate_lines s = head_lines s ++ (edge_lines s ++ (pair_lines s ++ codes "end" ∷ []))
 
 -- each line with a newline behind it
 abbrev pub joined : List (List ℕ) → List ℕ
 joined lines = flat_map (λ line. line ++ 10 ∷ []) lines
 
 abbrev pub text_of : Stated → List ℕ
-text_of s = joined (lines_of s)
+text_of s = joined (certificate_lines s)
 
 -- all numbers are within their ranges, and have at most so many digits
 pub record IsWritable (s : Stated) : Type 0 where

@@ -35,8 +35,8 @@ fixed_line text r = line_at r >>= (λ l. if bytes_eq l.0 text then Ok l.1 else E
 abbrev pub named_line : List ℕ → Rest → Result (ℕ × Rest) CertError
 named_line word r = line_at r >>= (λ l. or_shape (number_behind word l.0) r.number >>= (λ k. Ok (k, l.1)))
 
-abbrev pub vertices_line : Rest → Result (ℕ × Rest) CertError
-vertices_line r =
+abbrev pub vertices_head_line : Rest → Result (ℕ × Rest) CertError
+vertices_head_line r =
     named_line (codes "vertices") r >>= (λ n. if nat_le 1 n.0 && nat_le n.0 MOST_VERTICES then Ok n
     else Err (Range r.number))
 
@@ -45,19 +45,19 @@ abbrev pub count_line : List ℕ → ℕ → Rest → Result (ℕ × Rest) CertE
 count_line word most r = named_line word r >>= (λ k. if nat_le k.0 most then Ok k else Err (Range r.number))
 
 -- what the numbers of an edge's line and of a pair's line say
-abbrev pub edge_of : List ℕ → Option ((ℕ × ℕ) × ℕ)
-edge_of (u ∷ v ∷ w ∷ []) = Some ((u, v), w)
-edge_of _ = None
+abbrev pub edge_of_numbers : List ℕ → Option ((ℕ × ℕ) × ℕ)
+edge_of_numbers (u ∷ v ∷ w ∷ []) = Some ((u, v), w)
+edge_of_numbers _ = None
 
-abbrev pub pair_of : List ℕ → Option ((ℕ × ℕ) × Entry)
-pair_of (x ∷ y ∷ d ∷ h ∷ z ∷ []) = Some ((x, y), record { dist = d; hops = h; next = z })
-pair_of _ = None
+abbrev pub pair_of_numbers : List ℕ → Option ((ℕ × ℕ) × Entry)
+pair_of_numbers (x ∷ y ∷ d ∷ h ∷ z ∷ []) = Some ((x, y), record { dist = d; hops = h; next = z })
+pair_of_numbers _ = None
 
 abbrev pub edge_in : List ℕ → Option ((ℕ × ℕ) × ℕ)
-edge_in line = numbers_in 3 line and_then edge_of
+edge_in line = numbers_in 3 line and_then edge_of_numbers
 
 abbrev pub pair_in : List ℕ → Option ((ℕ × ℕ) × Entry)
-pair_in line = numbers_in 5 line and_then pair_of
+pair_in line = numbers_in 5 line and_then pair_of_numbers
 
 -- two different vertices
 abbrev pub ends_fit : ℕ → ℕ × ℕ → Bool
@@ -97,8 +97,8 @@ items_onto item_in fits m (suc k) before r =
     item_line item_in fits before r >>= (λ e. items_onto item_in fits (map.insert m e.0.0 e.0.1) k (Some e.0.0) e.1)
 
 -- the line that ends the text
-abbrev pub end_line : Rest → Result (Unit {0}) CertError
-end_line r = fixed_line (codes "end") r >>= (λ e. if length e.bytes == 0 then Ok tt else Err (Shape e.number))
+abbrev pub closing_line : Rest → Result (Unit {0}) CertError
+closing_line r = fixed_line (codes "end") r >>= (λ e. if length e.bytes == 0 then Ok tt else Err (Shape e.number))
 
 -- the first three lines: the number and the number of vertices
 pub record Head : Type 0 where
@@ -110,7 +110,7 @@ abbrev pub head_of : Rest → Result Head CertError
 head_of r =
     fixed_line (codes "apsp certificate 1") r >>= (λ a.
     named_line (codes "number") a >>= (λ k.
-    vertices_line k.1 >>= (λ n. Ok (record { number = k.0; vertices = n.0; rest = n.1 }))))
+    vertices_head_line k.1 >>= (λ n. Ok (record { number = k.0; vertices = n.0; rest = n.1 }))))
 
 -- a line with a count, and that many items
 abbrev pub table_of :
@@ -123,7 +123,7 @@ abbrev pub body_of : Head → Result Stated CertError
 body_of h =
     table_of (codes "edges") edge_in (edge_fits h.vertices) h.vertices h.rest >>= (λ es.
     table_of (codes "pairs") pair_in (pair_fits h.vertices) h.vertices es.1 >>= (λ ps.
-    end_line ps.1 >>= (λ _.
+    closing_line ps.1 >>= (λ _.
     Ok (record { number = h.number; graph = record { vertices = h.vertices; edges = es.0 }; entries = ps.0 }))))
 
 -- what the bytes state, or the first fault

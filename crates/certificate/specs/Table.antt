@@ -22,8 +22,8 @@ abbrev pub insert_all : {V : Type 0} → map.FinMap pair_cmp V → List ((ℕ ×
 insert_all m [] = m
 insert_all m (e ∷ es) = insert_all (map.insert m e.0 e.1) es
 
-unfoldable pub map_of : {V : Type 0} → ℕ → (ℕ → ℕ → Option V) → map.FinMap pair_cmp V
-map_of n f = insert_all map.empty (table_items f n n)
+unfoldable pub table_map : {V : Type 0} → ℕ → (ℕ → ℕ → Option V) → map.FinMap pair_cmp V
+table_map n f = insert_all map.empty (table_items f n n)
 
-abbrev pub cell_at : {A : Type 0} → List (Option A) → ℕ → Option A
-cell_at cells k = slice_index_or cells k None
+abbrev pub table_cell : {A : Type 0} → List (Option A) → ℕ → Option A
+table_cell cells k = slice_index_or cells k None

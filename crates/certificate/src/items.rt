@@ -2,7 +2,7 @@
 ghost use Rattle.std.specs.Prelude.{◌≡◌, ◌+◌, ◌<◌, ◌^◌, IfOk, IsTrue};
 ghost use Rattle.graph_store.specs.Making.{IsVertexCount};
 ghost use Rattle.certificate.specs.Reading.{edge_in, pair_in, ends_fit, entry_fits, edge_fits, pair_fits, rises, item_line};
-ghost use Rattle.certificate.specs.Answer.{rest_of, Gives, edge_item, pair_item, IsPairWithin, IsEdgeWithin};
+ghost use Rattle.certificate.specs.Answer.{rest_behind, Gives, edge_item, pair_item, IsPairWithin, IsEdgeWithin};
 
 use crate::cuts::{five_numbers, three_numbers};
 use crate::lines::{Lines, line_at};
@@ -35,8 +35,8 @@ pub fn edge_line<'a>(
 ) -> Result<(Edge, Lines<'a>), CertError>
     requires number { lines.number + 1 < 2 ^ 32 }
     requires count { IsVertexCount n }
-    ensures line { Gives (λ x. (edge_item x.0, rest_of x.1)) result
-        (item_line edge_in (edge_fits n) before (rest_of lines.entry)) }
+    ensures line { Gives (λ x. (edge_item x.0, rest_behind x.1)) result
+        (item_line edge_in (edge_fits n) before (rest_behind lines.entry)) }
     ensures number { IfOk result (λ x. x.1.number ≡ lines.entry.number + 1) }
     ensures fits { IfOk result (λ x. IsTrue (edge_fits n (edge_item x.0))) }
 {
@@ -62,8 +62,8 @@ pub fn pair_line<'a>(
 ) -> Result<(Pair, Lines<'a>), CertError>
     requires number { lines.number + 1 < 2 ^ 32 }
     requires count { IsVertexCount n }
-    ensures line { Gives (λ x. (pair_item x.0, rest_of x.1)) result
-        (item_line pair_in (pair_fits n) before (rest_of lines.entry)) }
+    ensures line { Gives (λ x. (pair_item x.0, rest_behind x.1)) result
+        (item_line pair_in (pair_fits n) before (rest_behind lines.entry)) }
     ensures number { IfOk result (λ x. x.1.number ≡ lines.entry.number + 1) }
     ensures fits { IfOk result (λ x. IsTrue (pair_fits n (pair_item x.0))) }
     ensures digits { IfOk result (λ x. x.0.entry.dist < 10 ^ MOST_DIGITS) }

@@ -3,7 +3,7 @@
 ghost use Rattle.std.specs.Prelude.{◌≡◌, ◌<◌, ◌^◌, ◌↔◌, ℕ, List, Ok, Err};
 ghost use Rattle.apsp_model.specs.Graph.{IsGraph};
 ghost use Rattle.apsp_model.specs.Stated.{Stated, IsLawful};
-ghost use Rattle.version_face.specs.Seen.{Seen};
+ghost use Rattle.version_face.specs.Seen.{VersionSeen};
 ghost use Rattle.certificate.specs.Grammar.{IsCertText, IsWritable};
 ghost use Rattle.certificate.specs.Giving.{IsStatedOf};
 ghost use Rattle.certificate.specs.Reading.{stated_by};
@@ -22,9 +22,9 @@ pub fn law_one_certificate()
 /// A version states exactly one value, which is lawful, and which can be written where the version's
 /// number has few enough digits.
 pub fn law_version()
-    ensures some { (v : Seen) → (s : Stated) × IsStatedOf v s }
-    ensures one { (v : Seen) (s t : Stated) → IsStatedOf v s → IsStatedOf v t → s ≡ t }
-    ensures lawful { (v : Seen) (s : Stated) → IsStatedOf v s → IsLawful s }
-    ensures writable { (v : Seen) (s : Stated) → IsGraph v.graph → v.number < 10 ^ MOST_DIGITS → IsStatedOf v s
+    ensures some { (v : VersionSeen) → (s : Stated) × IsStatedOf v s }
+    ensures one { (v : VersionSeen) (s t : Stated) → IsStatedOf v s → IsStatedOf v t → s ≡ t }
+    ensures lawful { (v : VersionSeen) (s : Stated) → IsStatedOf v s → IsLawful s }
+    ensures writable { (v : VersionSeen) (s : Stated) → IsGraph v.graph → v.number < 10 ^ MOST_DIGITS → IsStatedOf v s
         → IsWritable s }
 {}

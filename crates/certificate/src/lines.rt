@@ -1,8 +1,8 @@
 //! The lines of a certificate that are no items.
 ghost use Rattle.std.specs.Prelude.{◌≡◌, ◌+◌, ◌-◌, ◌*◌, ◌<◌, ◌≤◌, ◌^◌, IfOk, codes};
 ghost use Rattle.graph_store.specs.Making.{IsVertexCount};
-ghost use Rattle.certificate.specs.Reading.{line_at, fixed_line, named_line, vertices_line, count_line, head_of, end_line};
-ghost use Rattle.certificate.specs.Answer.{rest_of, Gives};
+ghost use Rattle.certificate.specs.Reading.{line_at, fixed_line, named_line, vertices_head_line, count_line, head_of, closing_line};
+ghost use Rattle.certificate.specs.Answer.{rest_behind, Gives};
 
 use crate::cuts::{cut, number_behind};
 use crate::{CertError, MOST_DIGITS};
@@ -26,7 +26,7 @@ pub struct Head<'a> {
 /// The next line, which a newline ends.
 pub fn line_at(lines: Lines<'_>) -> Result<(&[u8], Lines<'_>), CertError>
     requires { lines.number + 1 < 2 ^ 32 }
-    ensures line { Gives (λ x. (x.0.now, rest_of x.1)) result (line_at (rest_of lines.entry)) }
+    ensures line { Gives (λ x. (x.0.now, rest_behind x.1)) result (line_at (rest_behind lines.entry)) }
     ensures number { IfOk result (λ x. x.1.number ≡ lines.entry.number + 1) }
 {
     match cut(b'\n', lines.bytes) {
@@ -44,7 +44,7 @@ pub fn line_at(lines: Lines<'_>) -> Result<(&[u8], Lines<'_>), CertError>
 /// The lines behind one that is this text.
 fn fixed_line<'a>(text: &[u8], lines: Lines<'a>) -> Result<Lines<'a>, CertError>
     requires { lines.number + 1 < 2 ^ 32 }
-    ensures line { Gives rest_of result (fixed_line text.now (rest_of lines.entry)) }
+    ensures line { Gives rest_behind result (fixed_line text.now (rest_behind lines.entry)) }
     ensures number { IfOk result (λ x. x.number ≡ lines.entry.number + 1) }
 {
     let (line, rest) = line_at(lines)?;
@@ -58,7 +58,7 @@ fn fixed_line<'a>(text: &[u8], lines: Lines<'a>) -> Result<Lines<'a>, CertError>
 /// The number of a line that has it behind this word.
 fn named_line<'a>(word: &[u8], lines: Lines<'a>) -> Result<(u64, Lines<'a>), CertError>
     requires { lines.number + 1 < 2 ^ 32 }
-    ensures line { Gives (λ x. (x.0, rest_of x.1)) result (named_line word.now (rest_of lines.entry)) }
+    ensures line { Gives (λ x. (x.0, rest_behind x.1)) result (named_line word.now (rest_behind lines.entry)) }
     ensures digits { IfOk result (λ x. x.0 < 10 ^ MOST_DIGITS) }
     ensures number { IfOk result (λ x. x.1.number ≡ lines.entry.number + 1) }
 {
@@ -71,7 +71,7 @@ fn named_line<'a>(word: &[u8], lines: Lines<'a>) -> Result<(u64, Lines<'a>), Cer
 
 fn vertices_line(lines: Lines<'_>) -> Result<(u32, Lines<'_>), CertError>
     requires { lines.number + 1 < 2 ^ 32 }
-    ensures line { Gives (λ x. (x.0, rest_of x.1)) result (vertices_line (rest_of lines.entry)) }
+    ensures line { Gives (λ x. (x.0, rest_behind x.1)) result (vertices_head_line (rest_behind lines.entry)) }
     ensures number { IfOk result (λ x. x.1.number ≡ lines.entry.number + 1) }
     ensures vertices { IfOk result (λ x. IsVertexCount x.0) }
 {
@@ -89,7 +89,7 @@ pub fn count_line<'a>(
     lines: Lines<'a>,
 ) -> Result<(u32, Lines<'a>), CertError>
     requires { lines.number + 1 < 2 ^ 32 }
-    ensures line { Gives (λ x. (x.0, rest_of x.1)) result (count_line word.now most (rest_of lines.entry)) }
+    ensures line { Gives (λ x. (x.0, rest_behind x.1)) result (count_line word.now most (rest_behind lines.entry)) }
     ensures number { IfOk result (λ x. x.1.number ≡ lines.entry.number + 1) }
     ensures most { IfOk result (λ x. x.0 ≤ most) }
 {
@@ -103,8 +103,8 @@ pub fn count_line<'a>(
 /// The first three lines.
 pub fn head_of(lines: Lines<'_>) -> Result<Head<'_>, CertError>
     requires { lines.number + 3 < 2 ^ 32 }
-    ensures head { Gives (λ h. record { number = h.number; vertices = h.vertices; rest = rest_of h.rest }) result
-        (head_of (rest_of lines.entry)) }
+    ensures head { Gives (λ h. record { number = h.number; vertices = h.vertices; rest = rest_behind h.rest }) result
+        (head_of (rest_behind lines.entry)) }
     ensures number { IfOk result (λ h. h.rest.number ≡ lines.entry.number + 3) }
     ensures vertices { IfOk result (λ h. IsVertexCount h.vertices) }
     ensures digits { IfOk result (λ h. h.number < 10 ^ MOST_DIGITS) }
@@ -122,7 +122,7 @@ pub fn head_of(lines: Lines<'_>) -> Result<Head<'_>, CertError>
 /// The line that ends the text.
 pub fn end_line(lines: Lines<'_>) -> Result<(), CertError>
     requires { lines.number + 1 < 2 ^ 32 }
-    ensures { Gives (λ _. tt) result (end_line (rest_of lines.entry)) }
+    ensures { Gives (λ _. tt) result (closing_line (rest_behind lines.entry)) }
 {
     let rest = fixed_line(b"end", lines)?;
     if rest.bytes.is_empty() {

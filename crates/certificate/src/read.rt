@@ -7,7 +7,7 @@ ghost use Rattle.apsp_model.specs.Stated.{Stated as Stated_model};
 ghost use Rattle.graph_store.specs.Making.{IsVertexCount};
 ghost use Rattle.certificate.specs.Grammar.{IsCertText};
 ghost use Rattle.certificate.specs.Reading.{body_of, stated_by};
-ghost use Rattle.certificate.specs.Answer.{rest_of, GivesOrMemory, IsEarly, ReadsEdges, ReadsPairs};
+ghost use Rattle.certificate.specs.Answer.{rest_behind, GivesOrMemory, IsEarly, ReadsEdges, ReadsPairs};
 
 use crate::items::{edge_line, pair_line};
 use crate::lines::{Head, Lines, count_line, end_line, head_of};
@@ -48,7 +48,7 @@ fn body_of(alloc: Global, head: Head<'_>) -> Result<Stated, CertError>
         (body_of (record {
           number = head.entry.number;
           vertices = head.entry.vertices;
-          rest = rest_of head.entry.rest;
+          rest = rest_behind head.entry.rest;
         })) }
 {
     let mut stated = Stated::new(alloc, head.number, head.vertices)?;
@@ -62,7 +62,7 @@ fn body_of(alloc: Global, head: Head<'_>) -> Result<Stated, CertError>
 fn read_edges<'a>(stated: &mut Stated, lines: Lines<'a>) -> Result<Lines<'a>, CertError>
     requires number { lines.number ≤ 4 }
     requires none { stated.old.graph ≡ no_edges stated.old.graph.vertices }
-    ensures edges { ReadsEdges stated.old stated.new result (rest_of lines.entry) }
+    ensures edges { ReadsEdges stated.old stated.new result (rest_behind lines.entry) }
     ensures number { IfOk result (λ r. r.number ≤ 5 + MOST_VERTICES * (MOST_VERTICES - 1)) }
 {
     let n = stated.vertices();
@@ -81,7 +81,7 @@ fn read_edges<'a>(stated: &mut Stated, lines: Lines<'a>) -> Result<Lines<'a>, Ce
 fn read_pairs<'a>(stated: &mut Stated, lines: Lines<'a>) -> Result<Lines<'a>, CertError>
     requires number { lines.number ≤ 5 + MOST_VERTICES * (MOST_VERTICES - 1) }
     requires none { stated.old.entries ≡ map.empty }
-    ensures pairs { ReadsPairs stated.old stated.new result (rest_of lines.entry) }
+    ensures pairs { ReadsPairs stated.old stated.new result (rest_behind lines.entry) }
     ensures number { IfOk result (λ r. r.number ≤ 6 + 2 * (MOST_VERTICES * (MOST_VERTICES - 1))) }
 {
     let n = stated.vertices();

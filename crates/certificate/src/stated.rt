@@ -8,7 +8,7 @@ ghost use Rattle.graph_store.specs.Making.{IsVertexCount};
 ghost use Rattle.version_face.specs.Entries.{stated};
 ghost use Rattle.certificate.specs.Reading.{edge_fits, pair_fits};
 ghost use Rattle.certificate.specs.Answer.{edge_item, pair_item};
-ghost use Rattle.certificate.specs.Inside.{with_edge, with_pair};
+ghost use Rattle.certificate.specs.Inside.{with_stated_edge, with_pair};
 
 use crate::MOST_DIGITS;
 use crate::items::{Edge, Pair};
@@ -57,7 +57,7 @@ impl Stated {
     /// Adds an edge.
     pub(crate) fn put_edge(&mut self, edge: &Edge)
         requires { IsTrue (edge_fits self.old.graph.vertices (edge_item edge.now)) }
-        ensures { self.new ≡ with_edge self.old (edge_item edge.now) }
+        ensures { self.new ≡ with_stated_edge self.old (edge_item edge.now) }
     {
         let place = edge.from as usize * self.vertices as usize + edge.to as usize;
         self.weights[place] = Some(edge.weight);

@@ -4,7 +4,7 @@ ghost use Rattle.std.specs.Option.{option_map};
 ghost use Rattle.apsp_model.specs.Graph.{IsGraph};
 ghost use Rattle.apsp_model.specs.Stated.{Stated, Entry as Stated_entry};
 ghost use Rattle.version_face.specs.Entries.{stated};
-ghost use Rattle.certificate.specs.Grammar.{named, spaced, edge_line, pair_line, joined, text_of};
+ghost use Rattle.certificate.specs.Grammar.{named, spaced, edge_line_text, pair_line_text, joined, text_of};
 ghost use Rattle.certificate.specs.Table.{item_list};
 ghost use Rattle.certificate.specs.Giving.{IsStatedOf, GivesText};
 ghost use Rattle.certificate.specs.Writing.{items_text, table_text, row_edges, edge_items, IsEntryTable, row_pairs, pair_items};
@@ -44,7 +44,7 @@ fn give_head<K: Sink>(version: &Version, sink: &mut K) -> Result<(), GiveError>
 /// Gives the number of the edges and their lines.
 fn give_edges<K: Sink>(version: &Version, sink: &mut K) -> Result<(), GiveError>
     ensures text { GivesText result (K.held sink.old) (K.held sink.new) (K.faults sink.old) (K.faults sink.new)
-        (table_text (codes "edges") edge_line (edge_items version.now.graph)) }
+        (table_text (codes "edges") edge_line_text (edge_items version.now.graph)) }
     ensures later { K.faults sink.old ≤ K.faults sink.new }
 {
     give_named(b"edges", u64::from(count_edges(version)), sink)?;
@@ -55,7 +55,7 @@ fn give_edges<K: Sink>(version: &Version, sink: &mut K) -> Result<(), GiveError>
 fn give_pairs<K: Sink>(version: &Version, sink: &mut K) -> Result<(), GiveError>
     ensures text { (f : ℕ → ℕ → Option Stated_entry) → IsEntryTable version.now.graph f →
         GivesText result (K.held sink.old) (K.held sink.new) (K.faults sink.old) (K.faults sink.new)
-        (table_text (codes "pairs") pair_line (pair_items version.now.graph f)) }
+        (table_text (codes "pairs") pair_line_text (pair_items version.now.graph f)) }
     ensures later { K.faults sink.old ≤ K.faults sink.new }
 {
     give_named(b"pairs", u64::from(count_pairs(version)), sink)?;
@@ -64,7 +64,7 @@ fn give_pairs<K: Sink>(version: &Version, sink: &mut K) -> Result<(), GiveError>
 
 fn give_edge_rows<K: Sink>(version: &Version, sink: &mut K) -> Result<(), GiveError>
     ensures text { GivesText result (K.held sink.old) (K.held sink.new) (K.faults sink.old) (K.faults sink.new)
-        (items_text edge_line (edge_items version.now.graph)) }
+        (items_text edge_line_text (edge_items version.now.graph)) }
     ensures later { K.faults sink.old ≤ K.faults sink.new }
 {
     'rows: for u in 0..version.vertices() {
@@ -76,7 +76,7 @@ fn give_edge_rows<K: Sink>(version: &Version, sink: &mut K) -> Result<(), GiveEr
 fn give_edge_row<K: Sink>(version: &Version, u: u32, sink: &mut K) -> Result<(), GiveError>
     requires { u < version.now.graph.vertices }
     ensures text { GivesText result (K.held sink.old) (K.held sink.new) (K.faults sink.old) (K.faults sink.new)
-        (items_text edge_line (row_edges version.now.graph u)) }
+        (items_text edge_line_text (row_edges version.now.graph u)) }
     ensures later { K.faults sink.old ≤ K.faults sink.new }
 {
     'cells: for v in 0..version.vertices() {
@@ -88,7 +88,7 @@ fn give_edge_row<K: Sink>(version: &Version, u: u32, sink: &mut K) -> Result<(),
 fn give_pair_rows<K: Sink>(version: &Version, sink: &mut K) -> Result<(), GiveError>
     ensures text { (f : ℕ → ℕ → Option Stated_entry) → IsEntryTable version.now.graph f →
         GivesText result (K.held sink.old) (K.held sink.new) (K.faults sink.old) (K.faults sink.new)
-        (items_text pair_line (pair_items version.now.graph f)) }
+        (items_text pair_line_text (pair_items version.now.graph f)) }
     ensures later { K.faults sink.old ≤ K.faults sink.new }
 {
     'rows: for x in 0..version.vertices() {
@@ -101,7 +101,7 @@ fn give_pair_row<K: Sink>(version: &Version, x: u32, sink: &mut K) -> Result<(),
     requires { x < version.now.graph.vertices }
     ensures text { (f : ℕ → ℕ → Option Stated_entry) → IsEntryTable version.now.graph f →
         GivesText result (K.held sink.old) (K.held sink.new) (K.faults sink.old) (K.faults sink.new)
-        (items_text pair_line (row_pairs version.now.graph f x)) }
+        (items_text pair_line_text (row_pairs version.now.graph f x)) }
     ensures later { K.faults sink.old ≤ K.faults sink.new }
 {
     'cells: for y in 0..version.vertices() {
@@ -215,7 +215,7 @@ fn give_weight<K: Sink>(
     sink: &mut K,
 ) -> Result<(), GiveError>
     ensures text { GivesText result (K.held sink.old) (K.held sink.new) (K.faults sink.old) (K.faults sink.new)
-        (items_text edge_line (item_list (from, to) weight)) }
+        (items_text edge_line_text (item_list (from, to) weight)) }
     ensures later { K.faults sink.old ≤ K.faults sink.new }
 {
     match weight {
@@ -232,7 +232,7 @@ fn give_entry<K: Sink>(
     sink: &mut K,
 ) -> Result<(), GiveError>
     ensures text { GivesText result (K.held sink.old) (K.held sink.new) (K.faults sink.old) (K.faults sink.new)
-        (items_text pair_line (item_list (from, to) (option_map stated entry))) }
+        (items_text pair_line_text (item_list (from, to) (option_map stated entry))) }
     ensures later { K.faults sink.old ≤ K.faults sink.new }
 {
     match entry {
@@ -244,7 +244,7 @@ fn give_entry<K: Sink>(
 /// Gives the line of an edge.
 fn give_edge<K: Sink>(from: u32, to: u32, weight: u32, sink: &mut K) -> Result<(), GiveError>
     ensures text { GivesText result (K.held sink.old) (K.held sink.new) (K.faults sink.old) (K.faults sink.new)
-        (edge_line ((from, to), weight) ++ 10 ∷ []) }
+        (edge_line_text ((from, to), weight) ++ 10 ∷ []) }
     ensures later { K.faults sink.old ≤ K.faults sink.new }
 {
     let mut line = Line::new();
@@ -259,7 +259,7 @@ fn give_edge<K: Sink>(from: u32, to: u32, weight: u32, sink: &mut K) -> Result<(
 /// Gives the line of a pair.
 fn give_pair<K: Sink>(from: u32, to: u32, entry: Entry, sink: &mut K) -> Result<(), GiveError>
     ensures text { GivesText result (K.held sink.old) (K.held sink.new) (K.faults sink.old) (K.faults sink.new)
-        (pair_line ((from, to), stated entry) ++ 10 ∷ []) }
+        (pair_line_text ((from, to), stated entry) ++ 10 ∷ []) }
     ensures later { K.faults sink.old ≤ K.faults sink.new }
 {
     let mut line = Line::new();

@@ -25,7 +25,7 @@ use Rattle.script_reader.specs.Words.{words_of, is_comment, command_of, is_out, 
 use Rattle.script_reader.specs.Refused.{Refusal, refused, ◌>>=◌}
 use Rattle.script_reader.specs.Edges.{number_at, vertex_below, vertex_at, is_no_weight, weight_in_range, weight_at_word, is_colon, edge_of, star_with_edge, star_with_item, star_with_groups, first_misfit, vertices_at}
 use Rattle.script_reader.specs.Meaning.{is_vertices, is_update, is_inner, is_of_block, is_full, misplaced, vertices_line, star_unless, star_line, edge_line, two_vertices, cut_line, row_line, stats_line, age_line, cert_line, block_line, end_line, since_word, since_at, ask_line, line_with, line_unless, command_line, line_of_words, line_of}
-use Rattle.script_reader.specs.Answer.{IsAnswer, Fits}
+use Rattle.script_reader.specs.Answer.{MeaningIs, FitsContext}
 
 -- where both steps were accepted
 record IsBound {A B : Type 0} (m : Result A Refusal) (f : A → Result B Refusal) (y : B) : Type 0 where
@@ -159,13 +159,13 @@ two_fit n (a ∷ b ∷ []) p e =
 two_fit n (a ∷ b ∷ c ∷ ws) p e = cc
 
 -- a command that may stand where it does failed none of the tests
-record IsPlaced (context : Context) (c : Command) : Type 0 where
+record MayStandThere (context : Context) (c : Command) : Type 0 where
   inner : (context.live && (not context.inside && is_inner c)) ≡ false
   of_block : (not context.live && is_of_block c) ≡ false
   within : (context.inside && not (is_update c || is_inner c)) ≡ false
   rest : ◌≡◌ {A = Option ℕ} (if is_vertices c then (if context.vertices == 0 then None else Some VERTICES_TWICE) else (if context.vertices == 0 then Some NO_VERTICES else (if context.inside && is_full context c then Some BLOCK_FULL else None))) None
 
-placed : (context : Context) (c : Command) → misplaced context c ≡ None → IsPlaced context c
+placed : (context : Context) (c : Command) → misplaced context c ≡ None → MayStandThere context c
 placed context c e =
     let first = test (context.live && (not context.inside && is_inner c)) COMMAND _ e in
     let second = test (not context.live && is_of_block c) NEEDS_LIVE _ first.1 in
@@ -197,33 +197,33 @@ some_vertices context full e = test (context.vertices == 0) refl e
     test false t e = grind (arith, nat_tests)
 
 module _ (context : Context) where
-  vertices_line_fits : (ws : List (List ℕ)) (l : Line) → context.inside ≡ false → vertices_line ws ≡ Ok l → Fits context l
+  vertices_line_fits : (ws : List (List ℕ)) (l : Line) → context.inside ≡ false → vertices_line ws ≡ Ok l → FitsContext context l
   vertices_line_fits [] l out e = cc
   vertices_line_fits (w ∷ []) l out e =
       let b = bound (number_at 2 w) (λ m. if nat_le 1 m && nat_le m MOST_VERTICES then Ok (Vertices m) else refused VERTEX 2) l e in
       let t = passed (nat_le 1 b.value && nat_le b.value MOST_VERTICES) (Vertices b.value) l VERTEX 2 b.second in
-      subst (Fits context) t.1 (out, count b.value t.0)
+      subst (FitsContext context) t.1 (out, count b.value t.0)
     where
       count : (m : ℕ) → (nat_le 1 m && nat_le m MOST_VERTICES) ≡ true → IsVertexCount m
       count m t = record { some = grind (arith, nat_tests); most = grind (arith, nat_tests) }
   vertices_line_fits (w ∷ v ∷ ws) l out e = cc
 
-  star_line_fits : (ws : List (List ℕ)) (l : Line) → IsVertexCount context.vertices → star_line context.vertices ws ≡ Ok l → Fits context l
+  star_line_fits : (ws : List (List ℕ)) (l : Line) → IsVertexCount context.vertices → star_line context.vertices ws ≡ Ok l → FitsContext context l
   star_line_fits [] l count e = cc
   star_line_fits (w ∷ ws) l count e = at (first_misfit [] 3 ws) e
     where
-      fitted : (vertex_at context.vertices 2 w >>= (λ v. star_with_groups (no_star context.vertices v) Out 3 ws >>= (λ s. Ok (Star s)))) ≡ Ok l → Fits context l
+      fitted : (vertex_at context.vertices 2 w >>= (λ v. star_with_groups (no_star context.vertices v) Out 3 ws >>= (λ s. Ok (Star s)))) ≡ Ok l → FitsContext context l
       fitted e =
           let v = bound (vertex_at context.vertices 2 w) (λ v. star_with_groups (no_star context.vertices v) Out 3 ws >>= (λ s. Ok (Star s))) l e in
           let s = bound (star_with_groups (no_star context.vertices v.value) Out 3 ws) (λ s. Ok (Star s)) l v.second in
           let fit = groups_fit (no_star context.vertices v.value) Out 3 ws s.value (is_star-no_star context.vertices v.value count (vertex_fits context.vertices 2 w v.value v.first)) s.first in
-          subst (Fits context) (as_line (Star s.value) l s.second) fit
+          subst (FitsContext context) (as_line (Star s.value) l s.second) fit
 
-      at : (o : Option ℕ) → star_unless o context.vertices w ws ≡ Ok l → Fits context l
+      at : (o : Option ℕ) → star_unless o context.vertices w ws ≡ Ok l → FitsContext context l
       at (Some place) e = cc
       at None e = fitted e
 
-  edge_line_fits : (ws : List (List ℕ)) (l : Line) → edge_line context.vertices ws ≡ Ok l → Fits context l
+  edge_line_fits : (ws : List (List ℕ)) (l : Line) → edge_line context.vertices ws ≡ Ok l → FitsContext context l
   edge_line_fits [] l e = cc
   edge_line_fits (a ∷ []) l e = cc
   edge_line_fits (a ∷ b ∷ []) l e = cc
@@ -232,61 +232,61 @@ module _ (context : Context) where
       let v = bound (vertex_at context.vertices 3 b) (λ v. if u.value == v then refused SELF_EDGE 3 else (weight_at_word 4 c >>= (λ w. Ok (Edge u.value v w)))) l u.second in
       let t = not_failed (u.value == v.value) (weight_at_word 4 c >>= (λ w. Ok (Edge u.value v.value w))) l SELF_EDGE 3 v.second in
       let w = bound (weight_at_word 4 c) (λ w. Ok (Edge u.value v.value w)) l t.1 in
-      subst (Fits context) (as_line (Edge u.value v.value w.value) l w.second) (vertex_fits context.vertices 2 a u.value u.first, vertex_fits context.vertices 3 b v.value v.first, apart u.value v.value t.0, weight_fits 4 c w.value w.first)
+      subst (FitsContext context) (as_line (Edge u.value v.value w.value) l w.second) (vertex_fits context.vertices 2 a u.value u.first, vertex_fits context.vertices 3 b v.value v.first, apart u.value v.value t.0, weight_fits 4 c w.value w.first)
     where
       apart : (u v : ℕ) → (u == v) ≡ false → u ≢ v
       apart u v t h = grind (arith, nat_tests)
   edge_line_fits (a ∷ b ∷ c ∷ d ∷ ws) l e = cc
 
-  cut_line_fits : (ws : List (List ℕ)) (l : Line) → cut_line context.vertices ws ≡ Ok l → Fits context l
+  cut_line_fits : (ws : List (List ℕ)) (l : Line) → cut_line context.vertices ws ≡ Ok l → FitsContext context l
   cut_line_fits ws l e =
       let p = bound (two_vertices context.vertices ws) (λ p. if p.0 == p.1 then refused SELF_EDGE 3 else Ok (Cut p.0 p.1)) l e in
       let t = not_failed (p.value.0 == p.value.1) (Ok (Cut p.value.0 p.value.1)) l SELF_EDGE 3 p.second in
       let two = two_fit context.vertices ws p.value p.first in
-      subst (Fits context) (as_line (Cut p.value.0 p.value.1) l t.1) (two.0, two.1, apart p.value.0 p.value.1 t.0)
+      subst (FitsContext context) (as_line (Cut p.value.0 p.value.1) l t.1) (two.0, two.1, apart p.value.0 p.value.1 t.0)
     where
       apart : (u v : ℕ) → (u == v) ≡ false → u ≢ v
       apart u v t h = grind (arith, nat_tests)
 
-  dist_fits : (ws : List (List ℕ)) (l : Line) → context.inside ≡ false → (two_vertices context.vertices ws >>= (λ p. Ok (Dist p.0 p.1))) ≡ Ok l → Fits context l
+  dist_fits : (ws : List (List ℕ)) (l : Line) → context.inside ≡ false → (two_vertices context.vertices ws >>= (λ p. Ok (Dist p.0 p.1))) ≡ Ok l → FitsContext context l
   dist_fits ws l out e =
       let p = bound (two_vertices context.vertices ws) (λ p. Ok (Dist p.0 p.1)) l e in
       let two = two_fit context.vertices ws p.value p.first in
-      subst (Fits context) (as_line (Dist p.value.0 p.value.1) l p.second) (out, two.0, two.1)
+      subst (FitsContext context) (as_line (Dist p.value.0 p.value.1) l p.second) (out, two.0, two.1)
 
-  path_fits : (ws : List (List ℕ)) (l : Line) → context.inside ≡ false → (two_vertices context.vertices ws >>= (λ p. Ok (Path p.0 p.1))) ≡ Ok l → Fits context l
+  path_fits : (ws : List (List ℕ)) (l : Line) → context.inside ≡ false → (two_vertices context.vertices ws >>= (λ p. Ok (Path p.0 p.1))) ≡ Ok l → FitsContext context l
   path_fits ws l out e =
       let p = bound (two_vertices context.vertices ws) (λ p. Ok (Path p.0 p.1)) l e in
       let two = two_fit context.vertices ws p.value p.first in
-      subst (Fits context) (as_line (Path p.value.0 p.value.1) l p.second) (out, two.0, two.1)
+      subst (FitsContext context) (as_line (Path p.value.0 p.value.1) l p.second) (out, two.0, two.1)
 
-  row_line_fits : (ws : List (List ℕ)) (l : Line) → context.inside ≡ false → row_line context.vertices ws ≡ Ok l → Fits context l
+  row_line_fits : (ws : List (List ℕ)) (l : Line) → context.inside ≡ false → row_line context.vertices ws ≡ Ok l → FitsContext context l
   row_line_fits [] l out e = cc
   row_line_fits (a ∷ []) l out e =
       let x = bound (vertex_at context.vertices 2 a) (λ x. Ok (Row x)) l e in
-      subst (Fits context) (as_line (Row x.value) l x.second) (out, vertex_fits context.vertices 2 a x.value x.first)
+      subst (FitsContext context) (as_line (Row x.value) l x.second) (out, vertex_fits context.vertices 2 a x.value x.first)
   row_line_fits (a ∷ b ∷ ws) l out e = cc
 
-  stats_line_fits : (ws : List (List ℕ)) (l : Line) → context.inside ≡ false → 1 ≤ context.vertices → stats_line ws ≡ Ok l → Fits context l
-  stats_line_fits [] l out some e = subst (Fits context) (as_line Stats l e) (out, omega (arith, some))
+  stats_line_fits : (ws : List (List ℕ)) (l : Line) → context.inside ≡ false → 1 ≤ context.vertices → stats_line ws ≡ Ok l → FitsContext context l
+  stats_line_fits [] l out some e = subst (FitsContext context) (as_line Stats l e) (out, omega (arith, some))
   stats_line_fits (w ∷ ws) l out some e = cc
 
-  cert_line_fits : (ws : List (List ℕ)) (l : Line) → context.inside ≡ false → 1 ≤ context.vertices → cert_line ws ≡ Ok l → Fits context l
-  cert_line_fits [] l out some e = subst (Fits context) (as_line Cert l e) (out, omega (arith, some))
+  cert_line_fits : (ws : List (List ℕ)) (l : Line) → context.inside ≡ false → 1 ≤ context.vertices → cert_line ws ≡ Ok l → FitsContext context l
+  cert_line_fits [] l out some e = subst (FitsContext context) (as_line Cert l e) (out, omega (arith, some))
   cert_line_fits (w ∷ ws) l out some e = cc
 
-  age_line_fits : (ws : List (List ℕ)) (l : Line) → context.inside ≡ false → age_line context.vertices ws ≡ Ok l → Fits context l
+  age_line_fits : (ws : List (List ℕ)) (l : Line) → context.inside ≡ false → age_line context.vertices ws ≡ Ok l → FitsContext context l
   age_line_fits [] l out e = cc
   age_line_fits (w ∷ ws) l out e =
       let us = bound (vertices_at context.vertices 2 (w ∷ ws)) (λ us. Ok (Age us)) l e in
-      subst (Fits context) (as_line (Age us.value) l us.second) (out, vertices_some context.vertices 2 w ws us.value us.first, vertices_fit context.vertices 2 (w ∷ ws) us.value us.first)
+      subst (FitsContext context) (as_line (Age us.value) l us.second) (out, vertices_some context.vertices 2 w ws us.value us.first, vertices_fit context.vertices 2 (w ∷ ws) us.value us.first)
 
-  block_line_fits : (ws : List (List ℕ)) (l : Line) → context.live ≡ true → context.inside ≡ false → 1 ≤ context.vertices → block_line ws ≡ Ok l → Fits context l
-  block_line_fits [] l live out some e = subst (Fits context) (as_line Block l e) (live, out, omega (arith, some))
+  block_line_fits : (ws : List (List ℕ)) (l : Line) → context.live ≡ true → context.inside ≡ false → 1 ≤ context.vertices → block_line ws ≡ Ok l → FitsContext context l
+  block_line_fits [] l live out some e = subst (FitsContext context) (as_line Block l e) (live, out, omega (arith, some))
   block_line_fits (w ∷ ws) l live out some e = cc
 
-  end_line_fits : (ws : List (List ℕ)) (l : Line) → context.inside ≡ true → end_line ws ≡ Ok l → Fits context l
-  end_line_fits [] l within e = subst (Fits context) (as_line End l e) within
+  end_line_fits : (ws : List (List ℕ)) (l : Line) → context.inside ≡ true → end_line ws ≡ Ok l → FitsContext context l
+  end_line_fits [] l within e = subst (FitsContext context) (as_line End l e) within
   end_line_fits (w ∷ ws) l within e = cc
 
   since_fits : (word : Option (List ℕ)) (j : ℕ) → since_at context.updates word ≡ Ok j → j ≤ context.updates
@@ -306,7 +306,7 @@ module _ (context : Context) where
           let same : x ≡ j = cc in
           grind (arith, nat_tests)
 
-  ask_line_fits : (ws : List (List ℕ)) (l : Line) → context.inside ≡ true → ask_line context.vertices context.updates ws ≡ Ok l → Fits context l
+  ask_line_fits : (ws : List (List ℕ)) (l : Line) → context.inside ≡ true → ask_line context.vertices context.updates ws ≡ Ok l → FitsContext context l
   ask_line_fits [] l within e = cc
   ask_line_fits (a ∷ []) l within e = cc
   ask_line_fits (a ∷ b ∷ ws) l within e =
@@ -314,9 +314,9 @@ module _ (context : Context) where
       let x = bound (vertex_at context.vertices 2 a) (λ x. vertex_at context.vertices 3 b >>= (λ y. since_at context.updates number.value >>= (λ since. Ok (Ask x y since)))) l number.second in
       let y = bound (vertex_at context.vertices 3 b) (λ y. since_at context.updates number.value >>= (λ since. Ok (Ask x.value y since))) l x.second in
       let j = bound (since_at context.updates number.value) (λ since. Ok (Ask x.value y.value since)) l y.second in
-      subst (Fits context) (as_line (Ask x.value y.value j.value) l j.second) (within, vertex_fits context.vertices 2 a x.value x.first, vertex_fits context.vertices 3 b y.value y.first, since_fits number.value j.value j.first)
+      subst (FitsContext context) (as_line (Ask x.value y.value j.value) l j.second) (within, vertex_fits context.vertices 2 a x.value x.first, vertex_fits context.vertices 3 b y.value y.first, since_fits number.value j.value j.first)
 
-  line_fits : (c : Command) (ws : List (List ℕ)) (l : Line) → context.vertices ≤ MOST_VERTICES → IsPlaced context c → line_with c context ws ≡ Ok l → Fits context l
+  line_fits : (c : Command) (ws : List (List ℕ)) (l : Line) → context.vertices ≤ MOST_VERTICES → MayStandThere context c → line_with c context ws ≡ Ok l → FitsContext context l
   line_fits command.Vertices ws l most p e = vertices_line_fits ws l (is_outside context.inside p.within) e
   line_fits command.Star ws l most p e = star_line_fits ws l (record { some = some_vertices context _ p.rest; most = most }) e
   line_fits command.Edge ws l most p e = edge_line_fits ws l e
@@ -331,31 +331,31 @@ module _ (context : Context) where
   line_fits command.Ask ws l most p e = ask_line_fits ws l (is_inside context.live context.inside p.inner p.of_block) e
   line_fits command.End ws l most p e = end_line_fits ws l (is_inside context.live context.inside p.inner p.of_block) e
 
-  words_fit : (ws : List (List ℕ)) (l : Line) → context.vertices ≤ MOST_VERTICES → line_of_words context ws ≡ Ok l → Fits context l
-  words_fit [] l most e = subst (Fits context) (as_line Nothing l e) tt
+  words_fit : (ws : List (List ℕ)) (l : Line) → context.vertices ≤ MOST_VERTICES → line_of_words context ws ≡ Ok l → FitsContext context l
+  words_fit [] l most e = subst (FitsContext context) (as_line Nothing l e) tt
   words_fit (w ∷ ws) l most e = at (is_comment w) e
     where
-      unless : (c : Command) (o : Option ℕ) → misplaced context c ≡ o → line_unless o c context ws ≡ Ok l → Fits context l
+      unless : (c : Command) (o : Option ℕ) → misplaced context c ≡ o → line_unless o c context ws ≡ Ok l → FitsContext context l
       unless c (Some code) is e = cc
       unless c None is e = line_fits c ws l most (placed context c is) e
 
-      named : (o : Option Command) → command_line context o ws ≡ Ok l → Fits context l
+      named : (o : Option Command) → command_line context o ws ≡ Ok l → FitsContext context l
       named None e = cc
       named (Some c) e = unless c (misplaced context c) refl e
 
-      at : (b : Bool) → (if b then Ok Nothing else command_line context (command_of w) ws) ≡ Ok l → Fits context l
-      at true e = subst (Fits context) (as_line Nothing l e) tt
+      at : (b : Bool) → (if b then Ok Nothing else command_line context (command_of w) ws) ≡ Ok l → FitsContext context l
+      at true e = subst (FitsContext context) (as_line Nothing l e) tt
       at false e = named (command_of w) e
 
 -- the answer for all words of a line
-pub answer_fits : (context : Context) (ws : List (List ℕ)) (r : Result Line LineError) → context.vertices ≤ MOST_VERTICES → IsAnswer (line_of_words context ws) r → IfOk r (Fits context)
+pub answer_fits : (context : Context) (ws : List (List ℕ)) (r : Result Line LineError) → context.vertices ≤ MOST_VERTICES → MeaningIs (line_of_words context ws) r → IfOk r (FitsContext context)
 answer_fits context ws (Ok l) most e = words_fit context ws l most e
 answer_fits context ws (Err e) most a = tt
 
 -- an accepted line fits
-pub accepted_fits : (context : Context) (bytes : List ℕ) (l : Line) → context.vertices ≤ MOST_VERTICES → line_of context bytes ≡ Ok l → Fits context l
+pub accepted_fits : (context : Context) (bytes : List ℕ) (l : Line) → context.vertices ≤ MOST_VERTICES → line_of context bytes ≡ Ok l → FitsContext context l
 accepted_fits context bytes l most e = at (nat_lt MOST_LINE_BYTES (length bytes)) e
   where
-    at : (b : Bool) → (if b then refused TOO_LONG 0 else line_of_words context (words_of bytes)) ≡ Ok l → Fits context l
+    at : (b : Bool) → (if b then refused TOO_LONG 0 else line_of_words context (words_of bytes)) ≡ Ok l → FitsContext context l
     at true e = cc
     at false e = words_fit context (words_of bytes) l most e

@@ -19,10 +19,10 @@ use Rattle.script_reader.specs.Scan.{words_left}
 use Rattle.script_reader.specs.Refused.{Refusal, refused}
 
 -- the answer is the meaning, unless memory ran out
-abbrev pub IsAnswer : {A : Type 0} → Result A Refusal → Result A LineError → Type 0
-IsAnswer meaning (Ok x) = meaning ≡ Ok x
-IsAnswer meaning (Err (Refused code place)) = meaning ≡ refused code place
-IsAnswer meaning (Err Memory) = ⊤
+abbrev pub MeaningIs : {A : Type 0} → Result A Refusal → Result A LineError → Type 0
+MeaningIs meaning (Ok x) = meaning ≡ Ok x
+MeaningIs meaning (Err (Refused code place)) = meaning ≡ refused code place
+MeaningIs meaning (Err Memory) = ⊤
 
 -- the same of a star that is changed
 abbrev pub IsSetAnswer : Result Star_model Refusal → Result (Unit {0}) LineError → Star_model → Type 0
@@ -90,19 +90,19 @@ IsSinceAnswer meaning (Err (Refused code place)) = meaning ≡ refused code plac
 IsSinceAnswer meaning (Err Memory) = ⊤
 
 -- an accepted line may stand where it does, and its numbers are in range
-abbrev pub Fits : Context → Line → Type 0
-Fits context (Vertices m) = (context.inside ≡ false) × IsVertexCount m
-Fits context (Star s) = (s.vertices ≡ context.vertices) × IsStar s
-Fits context (Edge u v w) = (u < context.vertices) × (v < context.vertices) × (u ≢ v) × IsWeight w
-Fits context (Cut u v) = (u < context.vertices) × (v < context.vertices) × (u ≢ v)
-Fits context (Dist x y) = (context.inside ≡ false) × (x < context.vertices) × (y < context.vertices)
-Fits context (Path x y) = (context.inside ≡ false) × (x < context.vertices) × (y < context.vertices)
-Fits context (Row x) = (context.inside ≡ false) × (x < context.vertices)
-Fits context Stats = (context.inside ≡ false) × (0 < context.vertices)
-Fits context (Age list) = (context.inside ≡ false) × (0 < length list) × All (λ x. x < context.vertices) list
-Fits context Cert = (context.inside ≡ false) × (0 < context.vertices)
-Fits context Block = (context.live ≡ true) × (context.inside ≡ false) × (0 < context.vertices)
-Fits context (Ask x y since) =
+abbrev pub FitsContext : Context → Line → Type 0
+FitsContext context (Vertices m) = (context.inside ≡ false) × IsVertexCount m
+FitsContext context (Star s) = (s.vertices ≡ context.vertices) × IsStar s
+FitsContext context (Edge u v w) = (u < context.vertices) × (v < context.vertices) × (u ≢ v) × IsWeight w
+FitsContext context (Cut u v) = (u < context.vertices) × (v < context.vertices) × (u ≢ v)
+FitsContext context (Dist x y) = (context.inside ≡ false) × (x < context.vertices) × (y < context.vertices)
+FitsContext context (Path x y) = (context.inside ≡ false) × (x < context.vertices) × (y < context.vertices)
+FitsContext context (Row x) = (context.inside ≡ false) × (x < context.vertices)
+FitsContext context Stats = (context.inside ≡ false) × (0 < context.vertices)
+FitsContext context (Age list) = (context.inside ≡ false) × (0 < length list) × All (λ x. x < context.vertices) list
+FitsContext context Cert = (context.inside ≡ false) × (0 < context.vertices)
+FitsContext context Block = (context.live ≡ true) × (context.inside ≡ false) × (0 < context.vertices)
+FitsContext context (Ask x y since) =
     (context.inside ≡ true) × (x < context.vertices) × (y < context.vertices) × (since ≤ context.updates)
-Fits context End = context.inside ≡ true
-Fits context _ = ⊤
+FitsContext context End = context.inside ≡ true
+FitsContext context _ = ⊤

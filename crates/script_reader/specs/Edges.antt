@@ -5,15 +5,16 @@ use Rattle.std.specs.FinMap as map
 use Rattle.apsp_model.specs.declared.TheConstants.{LEAST_WEIGHT, MOST_WEIGHT}
 use Rattle.apsp_model.specs.Star.{Star}
 use Rattle.graph_store.specs.Edges.{with_edge}
+use Rattle.numerals.specs.Numbers.{number_of}
+use Rattle.script_reader.specs.declared.TheConstants.{MOST_DIGITS}
 use Rattle.script_reader.specs.declared.code.TheConstants.{NUMBER, VERTEX, SELF_EDGE, REPEAT, WEIGHT}
 use Rattle.script_reader.specs.declared.Group.{Group}
 use Rattle.script_reader.specs.declared.Group.TheVariants.{Out, In}
 use Rattle.script_reader.specs.Words.{is_out, is_in, group_of}
-use Rattle.script_reader.specs.Numbers.{number_of}
 use Rattle.script_reader.specs.Refused.{Refusal, refused, or_refused, ◌>>=◌}
 
 abbrev pub number_at : ℕ → List ℕ → Result ℕ Refusal
-number_at place w = or_refused (number_of w) NUMBER place
+number_at place w = or_refused (number_of MOST_DIGITS w) NUMBER place
 
 abbrev pub vertex_below : ℕ → ℕ → ℕ → Result ℕ Refusal
 vertex_below n place u = if nat_lt u n then Ok u else refused VERTEX place

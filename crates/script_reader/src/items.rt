@@ -1,20 +1,20 @@
 //! Vertices, weights and the items of a star.
 ghost use Rattle.std.specs.Prelude.{◌≡◌, ◌==◌, count_by, length, ◌<◌, ◌≤◌};
 ghost use Rattle.std.specs.List.{before_first, after_first, position_or_len};
-ghost use Rattle.script_reader.specs.Answer.{IsAnswer, IsSetAnswer, star_refused};
+ghost use Rattle.script_reader.specs.Answer.{MeaningIs, IsSetAnswer, star_refused};
 ghost use Rattle.script_reader.specs.Edges.{number_at, vertex_at, weight_at_word, is_colon, star_with_edge, star_with_item};
 
-use crate::numbers::number_of;
 use crate::scan::Word;
-use crate::{Group, LineError, code, refused};
+use crate::{Group, LineError, MOST_DIGITS, code, refused};
 use apsp_model::{LEAST_WEIGHT, MOST_WEIGHT};
 use graph_store::{Star, StarError};
+use numerals::number_of;
 
 /// The number that a word, or a part of it, is.
 pub fn number_at(place: u32, bytes: &[u8]) -> Result<u64, LineError>
-    ensures { IsAnswer (number_at place bytes.now) result }
+    ensures { MeaningIs (number_at place bytes.now) result }
 {
-    match number_of(bytes) {
+    match number_of(bytes, MOST_DIGITS) {
         Some(number) => Ok(number),
         None => Err(refused(code::NUMBER, place)),
     }
@@ -22,7 +22,7 @@ pub fn number_at(place: u32, bytes: &[u8]) -> Result<u64, LineError>
 
 /// The vertex that a word names, where n is the number of vertices.
 pub fn vertex_at(n: u32, word: Word<'_>) -> Result<u32, LineError>
-    ensures { IsAnswer (vertex_at n word.entry.place word.entry.bytes.now) result }
+    ensures { MeaningIs (vertex_at n word.entry.place word.entry.bytes.now) result }
 {
     let number = number_at(word.place, word.bytes)?;
     if number >= u64::from(n) {
@@ -33,7 +33,7 @@ pub fn vertex_at(n: u32, word: Word<'_>) -> Result<u32, LineError>
 
 /// The weight that a word names.
 pub fn weight_at(word: Word<'_>) -> Result<u32, LineError>
-    ensures { IsAnswer (weight_at_word word.entry.place word.entry.bytes.now) result }
+    ensures { MeaningIs (weight_at_word word.entry.place word.entry.bytes.now) result }
 {
     let number = number_at(word.place, word.bytes)?;
     if number < u64::from(LEAST_WEIGHT) || number > u64::from(MOST_WEIGHT) {

@@ -4,14 +4,13 @@
 ghost use Rattle.std.specs.Prelude.{◌≡◌, ◌≤◌, Bool, ℕ, IfOk};
 ghost use Rattle.script_reader.specs.Scan.{words_left};
 ghost use Rattle.script_reader.specs.Meaning.{line_of, line_of_words};
-ghost use Rattle.script_reader.specs.Answer.{IsAnswer, Fits};
+ghost use Rattle.script_reader.specs.Answer.{MeaningIs, FitsContext};
 
 mod commands;
 mod cutter;
 mod groups;
 mod items;
 mod lines;
-mod numbers;
 mod scan;
 #[cfg(test)]
 mod tests;
@@ -21,7 +20,6 @@ use commands::{command_of, is_comment, misplaced};
 pub use cutter::{Cut, LineCutter};
 use graph_store::Star;
 use lines::line_with;
-pub use numbers::number_of;
 use scan::Words;
 use std::alloc::Global;
 use std::marker::Model;
@@ -165,8 +163,8 @@ enum Group {
 /// the star, or for the vertices of `age`, alone.
 pub fn read_line(alloc: Global, bytes: &[u8], context: &Context) -> Result<Line, LineError>
     requires vertices { context.now.vertices ≤ MOST_VERTICES }
-    ensures answer { IsAnswer (line_of context.now bytes.now) result }
-    ensures fits { IfOk result (Fits context.now) }
+    ensures answer { MeaningIs (line_of context.now bytes.now) result }
+    ensures fits { IfOk result (FitsContext context.now) }
 {
     if bytes.len() > MOST_LINE_BYTES {
         return Err(refused(code::TOO_LONG, 0));
@@ -182,7 +180,7 @@ pub fn read_line(alloc: Global, bytes: &[u8], context: &Context) -> Result<Line,
 fn line_of_words(alloc: Global, mut words: Words<'_>, context: &Context) -> Result<Line, LineError>
     requires place { words.place ≡ 1 }
     requires vertices { context.now.vertices ≤ MOST_VERTICES }
-    ensures { IsAnswer (line_of_words context.now (words_left words.entry)) result }
+    ensures { MeaningIs (line_of_words context.now (words_left words.entry)) result }
 {
     let Some(first) = words.next() else {
         return Ok(Line::Nothing);

@@ -3,7 +3,7 @@ ghost use Rattle.std.specs.Prelude.{◌≡◌, ℕ, IfOk};
 ghost use Rattle.std.specs.Option.{ForSome};
 ghost use Rattle.graph_store.specs.Making.{IsVertexCount};
 ghost use Rattle.script_reader.specs.Scan.{words_left};
-ghost use Rattle.script_reader.specs.Answer.{IsAnswer, IsOne, AreTwo, AreThree, IsRequired, IsAtEnd, IsListAnswer, IsSinceAnswer, bytes_of};
+ghost use Rattle.script_reader.specs.Answer.{MeaningIs, IsOne, AreTwo, AreThree, IsRequired, IsAtEnd, IsListAnswer, IsSinceAnswer, bytes_of};
 ghost use Rattle.script_reader.specs.Meaning.{vertices_line, star_line, edge_line, cut_line, two_vertices, row_line, stats_line, age_line, cert_line, block_line, ask_line, since_word, since_at, end_line, line_with};
 ghost use Rattle.script_reader.specs.Edges.{vertices_at};
 
@@ -25,7 +25,7 @@ pub fn line_with(
 ) -> Result<Line, LineError>
     requires place { words.place ≡ 2 }
     requires count { command ≡ Command.Star → IsVertexCount context.now.vertices }
-    ensures { IsAnswer (line_with command context.now (words_left words.entry)) result }
+    ensures { MeaningIs (line_with command context.now (words_left words.entry)) result }
 {
     let n = context.vertices;
     match command {
@@ -53,7 +53,7 @@ pub fn line_with(
 
 fn vertices_line(words: Words<'_>) -> Result<Line, LineError>
     requires { words.place ≡ 2 }
-    ensures { IsAnswer (vertices_line (words_left words.entry)) result }
+    ensures { MeaningIs (vertices_line (words_left words.entry)) result }
 {
     let word = one(words)?;
     let n = number_at(word.place, word.bytes)?;
@@ -66,7 +66,7 @@ fn vertices_line(words: Words<'_>) -> Result<Line, LineError>
 fn star_line(alloc: Global, n: u32, mut words: Words<'_>) -> Result<Line, LineError>
     requires place { words.place ≡ 2 }
     requires count { IsVertexCount n }
-    ensures { IsAnswer (star_line n (words_left words.entry)) result }
+    ensures { MeaningIs (star_line n (words_left words.entry)) result }
 {
     let vertex = required(&mut words)?;
     if let Some(place) = first_misfit(words) {
@@ -80,7 +80,7 @@ fn star_line(alloc: Global, n: u32, mut words: Words<'_>) -> Result<Line, LineEr
 
 fn edge_line(n: u32, words: Words<'_>) -> Result<Line, LineError>
     requires { words.place ≡ 2 }
-    ensures { IsAnswer (edge_line n (words_left words.entry)) result }
+    ensures { MeaningIs (edge_line n (words_left words.entry)) result }
 {
     let (from, to, weight) = three(words)?;
     let u = vertex_at(n, from)?;
@@ -94,7 +94,7 @@ fn edge_line(n: u32, words: Words<'_>) -> Result<Line, LineError>
 
 fn cut_line(n: u32, words: Words<'_>) -> Result<Line, LineError>
     requires { words.place ≡ 2 }
-    ensures { IsAnswer (cut_line n (words_left words.entry)) result }
+    ensures { MeaningIs (cut_line n (words_left words.entry)) result }
 {
     let (u, v) = two_vertices(n, words)?;
     if u == v {
@@ -105,7 +105,7 @@ fn cut_line(n: u32, words: Words<'_>) -> Result<Line, LineError>
 
 fn two_vertices(n: u32, words: Words<'_>) -> Result<(u32, u32), LineError>
     requires { words.place ≡ 2 }
-    ensures { IsAnswer (two_vertices n (words_left words.entry)) result }
+    ensures { MeaningIs (two_vertices n (words_left words.entry)) result }
 {
     let (first, second) = two(words)?;
     let x = vertex_at(n, first)?;
@@ -115,7 +115,7 @@ fn two_vertices(n: u32, words: Words<'_>) -> Result<(u32, u32), LineError>
 
 fn row_line(n: u32, words: Words<'_>) -> Result<Line, LineError>
     requires { words.place ≡ 2 }
-    ensures { IsAnswer (row_line n (words_left words.entry)) result }
+    ensures { MeaningIs (row_line n (words_left words.entry)) result }
 {
     let word = one(words)?;
     let x = vertex_at(n, word)?;
@@ -124,7 +124,7 @@ fn row_line(n: u32, words: Words<'_>) -> Result<Line, LineError>
 
 fn stats_line(words: Words<'_>) -> Result<Line, LineError>
     requires { words.place ≡ 2 }
-    ensures { IsAnswer (stats_line (words_left words.entry)) result }
+    ensures { MeaningIs (stats_line (words_left words.entry)) result }
 {
     at_end(words)?;
     Ok(Line::Stats)
@@ -132,7 +132,7 @@ fn stats_line(words: Words<'_>) -> Result<Line, LineError>
 
 fn cert_line(words: Words<'_>) -> Result<Line, LineError>
     requires { words.place ≡ 2 }
-    ensures { IsAnswer (cert_line (words_left words.entry)) result }
+    ensures { MeaningIs (cert_line (words_left words.entry)) result }
 {
     at_end(words)?;
     Ok(Line::Cert)
@@ -140,7 +140,7 @@ fn cert_line(words: Words<'_>) -> Result<Line, LineError>
 
 fn age_line(alloc: Global, n: u32, words: Words<'_>) -> Result<Line, LineError>
     requires { words.place ≡ 2 }
-    ensures { IsAnswer (age_line n (words_left words.entry)) result }
+    ensures { MeaningIs (age_line n (words_left words.entry)) result }
 {
     let place = words.place;
     let items = vertices_at(alloc, n, words)?;
@@ -152,7 +152,7 @@ fn age_line(alloc: Global, n: u32, words: Words<'_>) -> Result<Line, LineError>
 
 fn block_line(words: Words<'_>) -> Result<Line, LineError>
     requires { words.place ≡ 2 }
-    ensures { IsAnswer (block_line (words_left words.entry)) result }
+    ensures { MeaningIs (block_line (words_left words.entry)) result }
 {
     at_end(words)?;
     Ok(Line::Block)
@@ -160,7 +160,7 @@ fn block_line(words: Words<'_>) -> Result<Line, LineError>
 
 fn end_line(words: Words<'_>) -> Result<Line, LineError>
     requires { words.place ≡ 2 }
-    ensures { IsAnswer (end_line (words_left words.entry)) result }
+    ensures { MeaningIs (end_line (words_left words.entry)) result }
 {
     at_end(words)?;
     Ok(Line::End)
@@ -169,7 +169,7 @@ fn end_line(words: Words<'_>) -> Result<Line, LineError>
 /// A question in a block that has accepted so many updates.
 fn ask_line(n: u32, so_far: u32, mut words: Words<'_>) -> Result<Line, LineError>
     requires { words.place ≡ 2 }
-    ensures { IsAnswer (ask_line n so_far (words_left words.entry)) result }
+    ensures { MeaningIs (ask_line n so_far (words_left words.entry)) result }
 {
     let from = required(&mut words)?;
     let to = required(&mut words)?;
@@ -198,7 +198,7 @@ fn since_word(mut words: Words<'_>) -> Result<Option<Word<'_>>, LineError>
 /// How many updates a question asks for, where its block has so many so far: none where no word says.
 fn since_at(so_far: u32, word: Option<Word<'_>>) -> Result<u32, LineError>
     requires { ForSome word (λ w. w.place ≡ 5) }
-    ensures { IsAnswer (since_at so_far (bytes_of word.entry)) result }
+    ensures { MeaningIs (since_at so_far (bytes_of word.entry)) result }
 {
     let Some(word) = word else {
         return Ok(0);

@@ -1,6 +1,6 @@
 use Rattle.std.proofs.Common.{arith}
 use Rattle.std.proofs.lemmas.Result.{err_from_is_err_and}
-use Rattle.certificate.specs.Answer.{rest_of, edge_item}
+use Rattle.certificate.specs.Answer.{rest_behind, edge_item}
 use Rattle.certificate.proofs.Loops.{most_items, edges_begin, edges_step, edges_fail, edges_end, edge_still_fits}
 use Rattle.certificate.proofs.read.read_edges.Goals as goal
 
@@ -13,16 +13,16 @@ edge_line-requires-clause-number c = omega (arith, c.edges.invariant.items.numbe
 pub returns-in_err-edge-clause-edges : goal.returns-in_err-edge-clause-edges
 returns-in_err-edge-clause-edges c =
     let p = err_from_is_err_and c.from_residual-in_err-edge.result c.from_residual-in_err-edge.ensures.1 in
-    rw (p.1, p.2) (edges_fail c.args.stated.now c.edges.stated c.vertices-n.result c.in_ok-count.count c.edges.counter c.edges.before (rest_of c.args.lines) (rest_of c.in_ok-count.rest) (rest_of c.edges.rest) c.in_err-edge.field-0.0 c.vertices-n.ensures.vertices c.in_ok-count.ensures.line c.edges.invariant c.edges-test.true c.in_err-edge.ensures.line)
+    rw (p.1, p.2) (edges_fail c.args.stated.now c.edges.stated c.vertices-n.result c.in_ok-count.count c.edges.counter c.edges.before (rest_behind c.args.lines) (rest_behind c.in_ok-count.rest) (rest_behind c.edges.rest) c.in_err-edge.field-0.0 c.vertices-n.ensures.vertices c.in_ok-count.ensures.line c.edges.invariant c.edges-test.true c.in_err-edge.ensures.line)
 
 pub put_edge-requires : goal.put_edge-requires
-put_edge-requires c = edge_still_fits c.args.stated.now c.edges.stated c.vertices-n.result c.in_ok-count.count c.edges.counter c.edges.before (rest_of c.in_ok-count.rest) (rest_of c.edges.rest) (edge_item c.in_ok-edge.edge) c.vertices-n.ensures.vertices c.edges.invariant c.in_ok-edge.ensures.fits
+put_edge-requires c = edge_still_fits c.args.stated.now c.edges.stated c.vertices-n.result c.in_ok-count.count c.edges.counter c.edges.before (rest_behind c.in_ok-count.rest) (rest_behind c.edges.rest) (edge_item c.in_ok-edge.edge) c.vertices-n.ensures.vertices c.edges.invariant c.in_ok-edge.ensures.fits
 
 pub edges-preserved : goal.edges-preserved
-edges-preserved c = edges_step c.args.stated.now c.edges.stated c.put_edge.new.self c.vertices-n.result c.in_ok-count.count c.edges.counter c.edges.before (rest_of c.in_ok-count.rest) (rest_of c.edges.rest) (rest_of c.in_ok-edge.behind) (edge_item c.in_ok-edge.edge) c.edges.invariant c.edges-test.true c.in_ok-edge.ensures.line c.in_ok-edge.ensures.number c.put_edge.ensures
+edges-preserved c = edges_step c.args.stated.now c.edges.stated c.put_edge.new.self c.vertices-n.result c.in_ok-count.count c.edges.counter c.edges.before (rest_behind c.in_ok-count.rest) (rest_behind c.edges.rest) (rest_behind c.in_ok-edge.behind) (edge_item c.in_ok-edge.edge) c.edges.invariant c.edges-test.true c.in_ok-edge.ensures.line c.in_ok-edge.ensures.number c.put_edge.ensures
 
 pub returns-clause-edges : goal.returns-clause-edges
-returns-clause-edges c = edges_end c.args.stated.now c.edges.stated c.vertices-n.result c.in_ok-count.count c.edges.counter c.edges.before (rest_of c.args.lines) (rest_of c.in_ok-count.rest) (rest_of c.edges.rest) c.vertices-n.ensures.vertices c.in_ok-count.ensures.line c.edges.invariant c.edges-test.false
+returns-clause-edges c = edges_end c.args.stated.now c.edges.stated c.vertices-n.result c.in_ok-count.count c.edges.counter c.edges.before (rest_behind c.args.lines) (rest_behind c.in_ok-count.rest) (rest_behind c.edges.rest) c.vertices-n.ensures.vertices c.in_ok-count.ensures.line c.edges.invariant c.edges-test.false
 
 pub returns-clause-number : goal.returns-clause-number
 returns-clause-number c = omega (arith, c.edges.invariant.items.number, c.edges.auto.counter-end, c.in_ok-count.ensures.number, c.in_ok-count.ensures.most, most_items c.vertices-n.result (omega (arith, c.vertices-n.ensures.range.range.graph.most, c.vertices-n.ensures.vertices)))

@@ -1,6 +1,6 @@
 use Rattle.std.proofs.Common.{arith}
-use Rattle.script_reader.proofs.Digits.{next_digit}
-use Rattle.script_reader.proofs.numbers.value_of.Goals as goal
+use Rattle.numerals.proofs.Digits.{next_digit}
+use Rattle.numerals.proofs.value_of.Goals as goal
 
 pub overflow_mul-value : goal.overflow_mul-value
 overflow_mul-value c = omega (arith, (next_digit _ _ _ c.requires c.loop-b-test.true c.loop-b.invariant).small)

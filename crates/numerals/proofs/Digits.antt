@@ -1,4 +1,4 @@
--- The value of digits, as far as they are read: for `number_of` and its loop `value_of`.
+-- The value of digits, as far as they are read: for `number_of` and its loop `value_of`; what is cited of numbers elsewhere.
 use Rattle.std.specs.Prelude.{◌≡◌, ℕ, zero, suc, ◌+◌, ◌-◌, ◌*◌, ◌^◌, ◌<◌, ◌≤◌, ◌&&◌, ◌||◌, ◌==◌, not, Some, None, nat_le, Bool, true, false, cond, List, [], ◌∷◌, length, take, slice_index, refl}
 use Rattle.std.specs.Char.{digit_value}
 use Rattle.std.specs.List.{list_all}
@@ -8,15 +8,17 @@ use Rattle.std.proofs.Math.Nat.{pow-le-pow_right}
 use Rattle.std.proofs.lemmas.Bool.Decides.{nat_tests}
 use Rattle.std.proofs.lemmas.Int.Digits.{digits_value-lt, digits_value_more}
 use Rattle.std.proofs.lemmas.List.{length-take}
-use Rattle.script_reader.specs.declared.TheConstants.{MOST_DIGITS}
-use Rattle.script_reader.specs.Numbers.{is_digit, is_number, AreFewDigits, number_of}
+use Rattle.numerals.specs.declared.TheConstants.{MOST_U64_DIGITS}
+use Rattle.numerals.specs.Numbers.{is_digit, is_number, number_of, AreFewDigits}
 
+-- b is the byte of a digit, with this value
 pub record IsDigit (b : ℕ) : Type 0 where
   pub low : 48 ≤ b
   pub high : b ≤ 57
   pub value : digit_value b ≡ b - 48
 
-digit_from_value : (b : ℕ) → digit_value b < 10 → IsDigit b
+-- a byte whose value as a digit is below 10 is that of a digit
+pub digit_from_value : (b : ℕ) → digit_value b < 10 → IsDigit b
 digit_from_value b h = record { low = grind (arith, nat_tests); high = grind (arith, nat_tests); value = grind (arith, nat_tests) }
 
 value_from_digit : (b : ℕ) → is_digit b ≡ true → digit_value b < 10
@@ -26,9 +28,21 @@ both : (a b : Bool) → (a && b) ≡ true → (a ≡ true) × (b ≡ true)
 both true b h = (refl, h)
 both false b h = cc
 
+-- bytes that are tested to be digits have values as digits
 pub all_digits : (w : List ℕ) → list_all is_digit w ≡ true → AllDigits 10 w
 all_digits [] h = tt
 all_digits (b ∷ bs) h = (value_from_digit b (both (is_digit b) (list_all is_digit bs) h).0, all_digits bs (both (is_digit b) (list_all is_digit bs) h).1)
+
+digit_test : (b : ℕ) → digit_value b < 10 → is_digit b ≡ true
+digit_test b h = let d = digit_from_value b h in at d.low d.high
+  where
+    at : 48 ≤ b → b ≤ 57 → (nat_le 48 b && nat_le b 57) ≡ true
+    at l h = grind (arith, nat_tests)
+
+-- .. and the other way round
+pub all_tests : (w : List ℕ) → AllDigits 10 w → list_all is_digit w ≡ true
+all_tests [] d = refl
+all_tests (b ∷ bs) d = ap (λ t. t && list_all is_digit bs) (digit_test b d.0) ∙ all_tests bs d.1
 
 digit_at : (w : List ℕ) (i : ℕ) → AllDigits 10 w → i < length w → digit_value (slice_index w i) < 10
 digit_at [] i d h = absurd (omega arith)
@@ -59,25 +73,41 @@ next_digit w i value few below is =
       next = omega (arith, digits_value_more 10 w i below, is, digit.value);
     }
 
--- a number has few digits
-pub few_digits : (w : List ℕ) → is_number w ≡ true → AreFewDigits w
-few_digits [] h = cc
-few_digits (b ∷ bs) h =
-    let parts = both (nat_le (length (b ∷ bs)) MOST_DIGITS) ((length (b ∷ bs) == 1 || not (b == 48)) && list_all is_digit (b ∷ bs)) h in
+-- what the test of a number says
+pub record IsTested (most : ℕ) (w : List ℕ) : Type 0 where
+  pub some : 0 < length w
+  pub few : length w ≤ most
+  pub first : slice_index w 0 ≡ 48 → length w ≡ 1
+  pub digits : AllDigits 10 w
+
+pub tested : (most : ℕ) (w : List ℕ) → is_number most w ≡ true → IsTested most w
+tested most [] h = cc
+tested most (b ∷ bs) h =
+    let parts = both (nat_le (length (b ∷ bs)) most) ((length (b ∷ bs) == 1 || not (b == 48)) && list_all is_digit (b ∷ bs)) h in
+    let more = both (length (b ∷ bs) == 1 || not (b == 48)) (list_all is_digit (b ∷ bs)) parts.1 in
     record {
-      digits = all_digits (b ∷ bs) (both (length (b ∷ bs) == 1 || not (b == 48)) (list_all is_digit (b ∷ bs)) parts.1).1;
-      few = within parts.0;
+      some = omega arith;
+      few = within (length (b ∷ bs)) parts.0;
+      first = lone (length (b ∷ bs)) more.0;
+      digits = all_digits (b ∷ bs) more.1;
     }
   where
-    within : nat_le (length (b ∷ bs)) MOST_DIGITS ≡ true → length (b ∷ bs) ≤ MOST_DIGITS
-    within e = grind (arith, nat_tests)
+    within : (l : ℕ) → nat_le l most ≡ true → l ≤ most
+    within l e = grind (arith, nat_tests)
+
+    lone : (l : ℕ) → (l == 1 || not (b == 48)) ≡ true → b ≡ 48 → l ≡ 1
+    lone l t e = grind (arith, nat_tests)
+
+-- a number has few digits
+pub few_digits : (most : ℕ) (w : List ℕ) → most ≤ MOST_U64_DIGITS → is_number most w ≡ true → AreFewDigits w
+few_digits most w fits h = let t = tested most w h in record { digits = t.digits; few = omega (arith, t.few, fits) }
 
 -- where all digits were read, their value is the number of the word
-pub number_is : (w : List ℕ) (value : ℕ) → is_number w ≡ true → value ≡ digits_value 10 w → Some value ≡ number_of w
+pub number_is : (most : ℕ) (w : List ℕ) (value : ℕ) → is_number most w ≡ true → value ≡ digits_value 10 w → Some value ≡ number_of most w
 unfolding number_of
-number_is w value test e = ap (λ n. Some n) e ∙ ap (λ c. cond c (Some (digits_value 10 w)) None) (sym test)
+number_is most w value test e = ap (λ n. Some n) e ∙ ap (λ c. cond c (Some (digits_value 10 w)) None) (sym test)
 
 -- a word that is no number has none
-pub no_number : (w : List ℕ) → is_number w ≡ false → None ≡ number_of w
+pub no_number : (most : ℕ) (w : List ℕ) → is_number most w ≡ false → None ≡ number_of most w
 unfolding number_of
-no_number w test = ap (λ c. cond c (Some (digits_value 10 w)) None) (sym test)
+no_number most w test = ap (λ c. cond c (Some (digits_value 10 w)) None) (sym test)
