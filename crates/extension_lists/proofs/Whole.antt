@@ -11,7 +11,7 @@ use Rattle.std.proofs.lemmas.List.Sorted.{IsPermutation-refl, IsPermutation-tran
 use Rattle.apsp_model.specs.Walk.{IsOnceEach}
 use Rattle.id_pool.specs.Lists.{Held, IsChanged, list_at, ids_at, marked_at}
 use Rattle.extension_lists.specs.Known.{Sides, Known, sides_at, no_sides, IsWithout, IsLeft, IsDropped, IsStarred, IsSameIds, added, change}
-use Rattle.extension_lists.specs.Slots.{IsSame, IsSides, known_by, sides_of, stars_at}
+use Rattle.extension_lists.specs.Slots.{ListsStay, IsSides, known_by, sides_of, stars_at}
 use Rattle.extension_lists.proofs.Places.{get-insert_same, get-insert_other, same_known}
 use Rattle.extension_lists.proofs.Once.{once_permutation, once_push}
 use Rattle.extension_lists.proofs.Shown.{shown, shown_true, shown_false, sides_is, same_sides, ids_other, stars_other, sound_changed, sound_same, sides_other, sides_same, put_left, put_right, known_changed, known_same}
@@ -54,7 +54,7 @@ some_if : (b : Bool) (s : Sides) → is_some (cond b (Some s) None) ≡ b
 some_if true s = refl
 some_if false s = refl
 
-some_shown : (known : List Bool) (pool : List Held) (q : ℕ) → is_some (map.get (known_by known pool) q) ≡ get_or known q false
+pub some_shown : (known : List Bool) (pool : List Held) (q : ℕ) → is_some (map.get (known_by known pool) q) ≡ get_or known q false
 some_shown known pool q = ap is_some (shown known pool q) ∙ some_if (get_or known q false) (sides_of pool q)
 
 moved_any : (pool pool' : List Held) (i j : ℕ) → IsChanged pool pool' i → IsPermutation (ids_at pool i) (ids_at pool' i) → IsPermutation (ids_at pool j) (ids_at pool' j)
@@ -198,7 +198,7 @@ module _ (known : List Bool) (pool pool1 pool2 : List Held) (id l r : ℕ) (side
 
 -- ---- an id is put behind two lists
 
-module _ (known : List Bool) (pool pool1 pool2 pool3 : List Held) (id l r : ℕ) (sides : IsSides known pool) (flag_l : get_or known l false ≡ true) (flag_r : get_or known r false ≡ true) (same : IsSame pool pool1) (only2 : IsChanged pool1 pool2 (2 * l + 1)) (only3 : IsChanged pool2 pool3 (2 * r)) (put2 : ids_at pool2 (2 * l + 1) ≡ ids_at pool1 (2 * l + 1) ++ id ∷ []) (put3 : ids_at pool3 (2 * r) ≡ ids_at pool2 (2 * r) ++ id ∷ []) where
+module _ (known : List Bool) (pool pool1 pool2 pool3 : List Held) (id l r : ℕ) (sides : IsSides known pool) (flag_l : get_or known l false ≡ true) (flag_r : get_or known r false ≡ true) (same : ListsStay pool pool1) (only2 : IsChanged pool1 pool2 (2 * l + 1)) (only3 : IsChanged pool2 pool3 (2 * r)) (put2 : ids_at pool2 (2 * l + 1) ≡ ids_at pool1 (2 * l + 1) ++ id ∷ []) (put3 : ids_at pool3 (2 * r) ≡ ids_at pool2 (2 * r) ++ id ∷ []) where
   pub sound_added : (Contains (ids_at pool (2 * l + 1)) id → ⊥) → (Contains (ids_at pool (2 * r)) id → ⊥) → IsSides known pool3
   sound_added new_right new_left =
       let sides1 : IsSides known pool1 = sound_same known pool pool1 sides same in
@@ -217,7 +217,7 @@ module _ (known : List Bool) (pool pool1 pool2 pool3 : List Held) (id l r : ℕ)
 
 -- ---- an id is put behind the first of two lists and taken back
 
-pub same_all : (pool : List Held) → IsSame pool pool
+pub same_all : (pool : List Held) → ListsStay pool pool
 same_all pool = record { many = refl; ids = λ i. refl; marked = λ i. refl }
 
 without_last : (xs ys : List ℕ) (id : ℕ) → ys ≡ xs ++ id ∷ [] → take (length ys - 1) ys ≡ xs
@@ -226,7 +226,7 @@ without_last xs ys id is =
     ∙ (let many : length (xs ++ id ∷ []) - 1 ≡ length xs = omega (arith, length_push xs id) in ap (λ n. take n (xs ++ id ∷ [])) many)
     ∙ take-append_seam xs (id ∷ [])
 
-pub same_back : (pool pool2 pool3 pool4 : List Held) (i id : ℕ) → IsChanged pool pool2 i → ids_at pool2 i ≡ ids_at pool i ++ id ∷ [] → marked_at pool2 i ≡ marked_at pool i → pool3 ≡ pool2 → IsChanged pool3 pool4 i → ids_at pool4 i ≡ take (length (ids_at pool3 i) - 1) (ids_at pool3 i) → marked_at pool4 i ≡ marked_at pool3 i → IsSame pool pool4
+pub same_back : (pool pool2 pool3 pool4 : List Held) (i id : ℕ) → IsChanged pool pool2 i → ids_at pool2 i ≡ ids_at pool i ++ id ∷ [] → marked_at pool2 i ≡ marked_at pool i → pool3 ≡ pool2 → IsChanged pool3 pool4 i → ids_at pool4 i ≡ take (length (ids_at pool3 i) - 1) (ids_at pool3 i) → marked_at pool4 i ≡ marked_at pool3 i → ListsStay pool pool4
 same_back pool pool2 pool3 pool4 i id only2 ids2 marked2 is only4 ids4 marked4 = record {
   many = only4.many ∙ ap length is ∙ only2.many;
   ids = λ j. elim (cases_eq j i) [
@@ -239,5 +239,5 @@ same_back pool pool2 pool3 pool4 i id only2 ids2 marked2 is only4 ids4 marked4 =
   ];
 }
 
-pub known_back : (known : List Bool) (pool pool4 : List Held) → IsSame pool pool4 → known_by known pool4 ≡ known_by known pool
+pub known_back : (known : List Bool) (pool pool4 : List Held) → ListsStay pool pool4 → known_by known pool4 ≡ known_by known pool
 known_back known pool pool4 same = known_same known pool pool4 (λ q. sides_same pool pool4 q same)

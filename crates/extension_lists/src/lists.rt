@@ -3,8 +3,8 @@
 ghost use Rattle.std.specs.Prelude.{◌≡◌, ◌≢◌, ℕ, ◌<◌, ◌≤◌, ◌+◌, ◌*◌, ◌^◌, [], ◌∷◌, ◌++◌, OnOk, OnErr, Contains, IsNone, length, vec_len};
 ghost use Rattle.std.specs.FinMap as map;
 ghost use Rattle.apsp_model.specs.Walk.{IsOnceEach};
-ghost use Rattle.extension_lists.specs.Known.{IsKnown, IsDropped, IsStarred, StandsOnlyAt, added, change, no_sides, sides_at};
-ghost use Rattle.extension_lists.specs.Slots.{IsSides, known_by};
+ghost use Rattle.extension_lists.specs.Known.{IsKnown, IsDropped, IsStarred, IsTakenFromLeft, IsTakenFromRight, StandsOnlyAt, added, change, no_sides, sides_at};
+ghost use Rattle.extension_lists.specs.Slots.{IsCleared, IsSides, known_by};
 
 use crate::side::{star, take_back, take_out};
 use apsp_model::Memory;
@@ -120,6 +120,46 @@ impl Lists {
         self.known[id.key()] = false;
     }
 
+    /// Takes an id out of the left extensions of r, in time of their number.
+    #[inline(always)]
+    pub fn drop_left(&mut self, id: PathId, r: PathId)
+        requires { IsKnown self.old r }
+        ensures { IsTakenFromLeft self.old self.new id r }
+    {
+        let list = 2 * r.key();
+        take_out(&mut self.pool, list, id);
+    }
+
+    /// Takes an id out of the right extensions of l, in time of their number.
+    #[inline(always)]
+    pub fn drop_right(&mut self, id: PathId, l: PathId)
+        requires { IsKnown self.old l }
+        ensures { IsTakenFromRight self.old self.new id l }
+    {
+        let list = 2 * l.key() + 1;
+        take_out(&mut self.pool, list, id);
+    }
+
+    /// Empties the lists of a known id, in constant time.
+    #[inline(always)]
+    pub fn clear(&mut self, id: PathId)
+        requires { IsKnown self.old id }
+        ensures { self.new ≡ map.insert self.old id no_sides }
+    {
+        clear_both(&mut self.pool, id.key());
+    }
+
+    /// Forgets a known id and its lists, in constant time. The lists in which it stands keep it.
+    #[inline(always)]
+    pub fn forget(&mut self, id: PathId)
+        requires { IsKnown self.old id }
+        ensures { self.new ≡ map.remove self.old id }
+    {
+        let gone = id.key();
+        clear_both(&mut self.pool, gone);
+        self.known[gone] = false;
+    }
+
     /// The left extensions of a known id.
     pub fn left(&self, id: PathId) -> &[PathId]
         requires { IsKnown self.now id }
@@ -157,8 +197,35 @@ impl Lists {
     }
 }
 
-/// Makes lists for a key, which nobody knows.
+/// Empties both lists of a key.
+#[inline(always)]
+fn clear_both(pool: &mut Pool, key: usize)
+    requires inside { 2 * key + 1 < length pool.old }
+    requires small { key < 2 ^ 32 }
+    ensures { IsCleared pool.old pool.new key }
+{
+    pool.clear(2 * key);
+    pool.clear(2 * key + 1);
+}
+
+/// Makes lists for a key, which nobody knows. Mostly there are some already.
+#[inline(always)]
 fn make_room(known: &mut Vec<bool>, pool: &mut Pool, key: usize) -> Result<(), Memory>
+    requires sound { IsSides known.old.items pool.old }
+    requires small { key < 2 ^ 32 }
+    ensures sound { IsSides known.new.items pool.new }
+    ensures same { known_by known.new.items pool.new ≡ known_by known.old.items pool.old }
+    ensures ok { OnOk result (key < vec_len known.new) }
+{
+    if key < known.len() {
+        return Ok(());
+    }
+    lengthen(known, pool, key)
+}
+
+/// Makes lists for all keys up to this one, which nobody knows.
+#[inline(never)]
+fn lengthen(known: &mut Vec<bool>, pool: &mut Pool, key: usize) -> Result<(), Memory>
     requires sound { IsSides known.old.items pool.old }
     requires small { key < 2 ^ 32 }
     ensures sound { IsSides known.new.items pool.new }

@@ -48,9 +48,8 @@ pub(crate) fn star(pool: &mut Pool, list: usize, id: PathId)
     ensures moved { IsPermutation (ids_at pool.old list) (ids_at pool.new list) }
     ensures starred { stars_at pool.new list ≡ stars_at pool.old list ++ id ∷ [] }
 {
-    if let Some(place) = place_of(pool.ids(list), id) {
-        pool.mark_at(list, place);
-    }
+    let place = pool.place_of(list, id);
+    pool.mark_at(list, place);
 }
 
 /// Takes an id out, if it stands there.

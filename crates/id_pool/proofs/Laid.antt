@@ -4,8 +4,8 @@ use Rattle.std.proofs.Common.{sym, ◌∙◌, ap, subst, arith, inl, inr, get_or
 use Rattle.std.proofs.lemmas.Bool.{cases_lt, cases_eq}
 use Rattle.std.proofs.lemmas.List.{map-append, get_or-map, length-map, get_or_past, get_or_append_left, get_or_push, length_push, length-take-le, set-get_or}
 use Rattle.id_pool.specs.declared.head.Head.{Head}
-use Rattle.id_pool.specs.Blocks.{Owner, Hand, Of, Stands, IsKept, room_of}
-use Rattle.id_pool.specs.Heads.{Near, Far, Shape, shape, IsOneMore, IsAt, IsPlaced, IsMoved, IsMovedTo, held_of, ids_of, len_of, mark_of}
+use Rattle.id_pool.specs.Blocks.{Owner, Hand, Of, HasOneOwnerEach, OwnerKeeps, room_of}
+use Rattle.id_pool.specs.Heads.{Near, Far, Shape, shape, IsOneMore, IsAt, IsPlacedInPool, IsMoved, IsMovedTo, held_of, ids_of, len_of, mark_of}
 use Rattle.id_pool.specs.Lists.{Held, IsChanged, list_at, no_ids}
 use Rattle.id_pool.specs.Layout.{IsLaid, lists_of}
 use Rattle.id_pool.proofs.Places.{owns_kept, room_most}
@@ -13,34 +13,34 @@ use Rattle.id_pool.proofs.Parts.{same_part, length_part}
 
 -- ---- a list that does not move
 
-at_kept : (ids ids' : List ℕ) (o o' : ℕ → Owner) (j : ℕ) (h : Shape) → length ids ≤ length ids' → IsKept ids ids' o o' (Of j) → IsAt ids o j h → IsAt ids' o' j h
+at_kept : (ids ids' : List ℕ) (o o' : ℕ → Owner) (j : ℕ) (h : Shape) → length ids ≤ length ids' → OwnerKeeps ids ids' o o' (Of j) → IsAt ids o j h → IsAt ids' o' j h
 at_kept ids ids' o o' j (Near len mark few) longer kept at = at
 at_kept ids ids' o o' j (Far level len place mark) longer kept at = (at.0, at.1, at.2, omega (arith, at.3), owns_kept ids ids' o o' (Of j) place (room_of level) at.3 kept at.4)
 
-ids_kept : (ids ids' : List ℕ) (o o' : ℕ → Owner) (j : ℕ) (h : Shape) → length ids ≤ length ids' → IsKept ids ids' o o' (Of j) → IsAt ids o j h → ids_of ids' h ≡ ids_of ids h
+ids_kept : (ids ids' : List ℕ) (o o' : ℕ → Owner) (j : ℕ) (h : Shape) → length ids ≤ length ids' → OwnerKeeps ids ids' o o' (Of j) → IsAt ids o j h → ids_of ids' h ≡ ids_of ids h
 ids_kept ids ids' o o' j (Near len mark few) longer kept at = refl
 ids_kept ids ids' o o' j (Far level len place mark) longer kept at =
     same_part ids ids' place place len (omega (arith, at.1, at.3)) (omega (arith, at.1, at.3))
     (λ i h. (kept (place + i) (omega (arith, at.1, at.3)) (at.4 i (omega (arith, at.1)))).1)
 
-held_kept : (ids ids' : List ℕ) (o o' : ℕ → Owner) (j : ℕ) (h : Shape) → length ids ≤ length ids' → IsKept ids ids' o o' (Of j) → IsAt ids o j h → held_of ids' h ≡ held_of ids h
+held_kept : (ids ids' : List ℕ) (o o' : ℕ → Owner) (j : ℕ) (h : Shape) → length ids ≤ length ids' → OwnerKeeps ids ids' o o' (Of j) → IsAt ids o j h → held_of ids' h ≡ held_of ids h
 held_kept ids ids' o o' j h longer kept at = ap (λ (xs : List ℕ). record { ids = xs; marked = mark_of h }) (ids_kept ids ids' o o' j h longer kept at)
 
 -- ---- what one list says of itself
 
-pub length_ids : (ids free : List ℕ) (h : Shape) → IsPlaced ids free h → length (ids_of ids h) ≡ len_of h
+pub length_ids : (ids free : List ℕ) (h : Shape) → IsPlacedInPool ids free h → length (ids_of ids h) ≡ len_of h
 length_ids ids free (Near len mark few) placed = omega (arith, length-take-le len few (omega (arith, placed.at.0, placed.at.2)))
 length_ids ids free (Far level len place mark) placed = length_part ids place len (omega (arith, placed.at.1, placed.at.3))
 
-pub mark_most : (ids free : List ℕ) (h : Shape) → IsPlaced ids free h → mark_of h ≤ len_of h
+pub mark_most : (ids free : List ℕ) (h : Shape) → IsPlacedInPool ids free h → mark_of h ≤ len_of h
 mark_most ids free (Near len mark few) placed = placed.at.1
 mark_most ids free (Far level len place mark) placed = placed.at.2
 
-pub len_most : (ids free : List ℕ) (h : Shape) → IsPlaced ids free h → len_of h ≤ 32768
+pub len_most : (ids free : List ℕ) (h : Shape) → IsPlacedInPool ids free h → len_of h ≤ 32768
 len_most ids free (Near len mark few) placed = omega (arith, placed.at.0)
 len_most ids free (Far level len place mark) placed = omega (arith, placed.at.1, room_most level placed.at.0)
 
-pub placed_at : (heads : List Head) (ids free : List ℕ) (k : ℕ) (h : Head) → IsLaid heads ids free → k < length heads → h ≡ get_or heads k h → IsPlaced ids free (shape h)
+pub placed_at : (heads : List Head) (ids free : List ℕ) (k : ℕ) (h : Head) → IsLaid heads ids free → k < length heads → h ≡ get_or heads k h → IsPlacedInPool ids free (shape h)
 placed_at heads ids free k h laid inside read = record {
   k = k;
   o = laid.o;
@@ -117,7 +117,7 @@ held_at heads ids old k h is inside read =
 
 -- ---- no lists, and one more
 
-pub laid_none : (ids free : List ℕ) (heads : List Head) → heads ≡ [] → Stands ids free (λ _. Hand) (λ _. 0) → IsLaid heads ids free
+pub laid_none : (ids free : List ℕ) (heads : List Head) → heads ≡ [] → HasOneOwnerEach ids free (λ _. Hand) (λ _. 0) → IsLaid heads ids free
 laid_none ids free heads none stands = record {
   o = λ _. Hand;
   depth = λ _. 0;
@@ -155,13 +155,9 @@ added (Err e) heads new ids old is ok = tt
 
 -- ---- a list gets one more id, if there is memory
 
-pub on_ok : {E : Type 0} {P Q : Type 0} (r : Result (Unit {0}) E) → OnOk r P → (P → Q) → OnOk r Q
-on_ok (Ok u) p f = f p
-on_ok (Err e) p f = tt
-
-pub on_ok_two : {E : Type 0} {P Q R : Type 0} (r : Result (Unit {0}) E) → OnOk r P → OnOk r Q → (P → Q → R) → OnOk r R
-on_ok_two (Ok u) p q f = f p q
-on_ok_two (Err e) p q f = tt
+pub on_ok_both : {E : Type 0} {P Q R : Type 0} (r : Result (Unit {0}) E) → (P → Q → R) → OnOk r P → OnOk r Q → OnOk r R
+on_ok_both (Ok u) f p q = f p q
+on_ok_both (Err e) f p q = tt
 
 set_back : (heads : List Head) (k : ℕ) (h h' : Head) → h ≡ get_or heads k h → h' ≡ h → set heads k h' ≡ heads
 set_back heads k h h' read same = ap (set heads k) (same ∙ read) ∙ set-get_or heads k h

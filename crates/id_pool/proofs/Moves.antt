@@ -1,8 +1,8 @@
 -- What a move of one list leaves of the others.
 use Rattle.std.specs.Prelude.{◌≡◌, ◌≢◌, ℕ, suc, ◌+◌, ◌<◌, ◌≤◌, ◌⊎◌, List, length, slice_index, slice_set, refl}
 use Rattle.std.proofs.Common.{sym, ◌∙◌, arith, inl, inr, set, length-set, get_or-set_other}
-use Rattle.id_pool.specs.Blocks.{Owner, Hand, Of, Free, Owns, Stands, IsKept, IsGivenTo, IsGiven, room_of}
-use Rattle.id_pool.specs.Heads.{Near, Far, Shape, IsAt, IsPlaced, IsMovedTo, IsMoved}
+use Rattle.id_pool.specs.Blocks.{Owner, Hand, Of, Free, Owns, HasOneOwnerEach, OwnerKeeps, IsGivenTo, IsGiven, room_of}
+use Rattle.id_pool.specs.Heads.{Near, Far, Shape, IsAt, IsPlacedInPool, IsMovedTo, IsMoved}
 use Rattle.id_pool.proofs.Places.{given, owns_given, kept_given_by, kept_then, owns_kept, room_some}
 use Rattle.id_pool.proofs.Chains.{with_depth, returned, rewritten}
 
@@ -49,7 +49,7 @@ moved_then ids1 free1 ids2 free2 ids3 free3 h1 h2 h3 one two = λ o depth k stan
       kept = λ j apart. kept_then ids1 ids2 ids3 o m.o' n.o' (Of j) m.longer (m.kept j apart) (n.kept j apart);
     }
 
-pub placed_moved : (ids free ids' free' : List ℕ) (h h' : Shape) → IsPlaced ids free h → IsMoved ids free h ids' free' h' → IsPlaced ids' free' h'
+pub placed_moved : (ids free ids' free' : List ℕ) (h h' : Shape) → IsPlacedInPool ids free h → IsMoved ids free h ids' free' h' → IsPlacedInPool ids' free' h'
 placed_moved ids free ids' free' h h' placed moved =
     let m : IsMovedTo ids ids' free' placed.o placed.k h' = moved placed.o placed.depth placed.k placed.stands placed.at in
     record { k = placed.k; o = m.o'; depth = m.depth'; stands = m.stands; at = m.at }
@@ -90,7 +90,7 @@ spilled ids free ids1 free1 ids2 few level len mark to t level_in fits many same
     }
 
 -- a list goes from its block into another one that was taken, and its own is given back
-module _ (ids free ids1 free1 ids2 : List ℕ) (level level' len place to mark : ℕ) (t : IsGiven ids free ids1 free1 to level') (level_in : level' < 13) (fits : len ≤ room_of level') (many : length ids2 ≡ length ids1) (same : IsSameOutside ids1 ids2 to (room_of level')) (o : ℕ → Owner) (depth : ℕ → ℕ) (k : ℕ) (stands : Stands ids free o depth) (at : IsAt ids o k (Far level len place mark)) where
+module _ (ids free ids1 free1 ids2 : List ℕ) (level level' len place to mark : ℕ) (t : IsGiven ids free ids1 free1 to level') (level_in : level' < 13) (fits : len ≤ room_of level') (many : length ids2 ≡ length ids1) (same : IsSameOutside ids1 ids2 to (room_of level')) (o : ℕ → Owner) (depth : ℕ → ℕ) (k : ℕ) (stands : HasOneOwnerEach ids free o depth) (at : IsAt ids o k (Far level len place mark)) where
   g : IsGivenTo ids ids1 free1 o to level'
   g = t.given o depth stands
 
@@ -124,10 +124,10 @@ module _ (ids free ids1 free1 ids2 : List ℕ) (level level' len place to mark :
   owns1 : Owns o1 Hand to (room_of level')
   owns1 = (t.given o depth stands).owns
 
-  keep1 : (j : ℕ) → IsKept ids ids1 o o1 (Of j)
+  keep1 : (j : ℕ) → OwnerKeeps ids ids1 o o1 (Of j)
   keep1 = (t.given o depth stands).kept
 
-  keep2 : (w : Owner) → (Hand ≡ w → ⊥) → IsKept ids1 ids2 o1 o2 w
+  keep2 : (w : Owner) → (Hand ≡ w → ⊥) → OwnerKeeps ids1 ids2 o1 o2 w
   keep2 w apart = kept_given_by ids1 ids2 o1 to (room_of level') Hand Hand w owns1 apart same
 
   list1 : Owns o1 (Of k) place (room_of level)
@@ -136,19 +136,19 @@ module _ (ids free ids1 free1 ids2 : List ℕ) (level level' len place to mark :
   list2 : Owns o2 (Of k) place (room_of level)
   list2 = owns_kept ids1 ids2 o1 o2 (Of k) place (room_of level) inside1 (keep2 (Of k) (hand_of k)) list1
 
-  keep3 : (w : Owner) → (Of k ≡ w → ⊥) → IsKept ids2 ids3 o2 o3 w
+  keep3 : (w : Owner) → (Of k ≡ w → ⊥) → OwnerKeeps ids2 ids3 o2 o3 w
   keep3 w apart = kept_given_by ids2 ids3 o2 place (room_of level) (Of k) (Free level (depth1 level)) w list2 apart (set_outside ids2 place (room_of level) place (slice_index free1 level) (omega arith) (omega (arith, room_some level)))
 
   hand3 : Owns o3 Hand to (room_of level')
   hand3 = owns_kept ids2 ids3 o2 o3 Hand to (room_of level') (omega (arith, t.inside, many)) (keep3 Hand (of_hand k)) (owns_given o1 to (room_of level') Hand)
 
-  keep4 : (w : Owner) → (Hand ≡ w → ⊥) → IsKept ids3 ids3 o3 o4 w
+  keep4 : (w : Owner) → (Hand ≡ w → ⊥) → OwnerKeeps ids3 ids3 o3 o4 w
   keep4 w apart = kept_given_by ids3 ids3 o3 to (room_of level') Hand (Of k) w hand3 apart (λ p inside out. refl)
 
-  stands2 : Stands ids2 free1 o2 depth1
+  stands2 : HasOneOwnerEach ids2 free1 o2 depth1
   stands2 = rewritten ids1 ids2 free1 o1 depth1 Hand Hand to (room_of level') (t.given o depth stands).stands hand_used owns1 many same
 
-  stands3 : Stands ids3 (slice_set free1 level place) o3 (with_depth depth1 level (suc (depth1 level)))
+  stands3 : HasOneOwnerEach ids3 (slice_set free1 level place) o3 (with_depth depth1 level (suc (depth1 level)))
   stands3 = returned ids2 free1 o2 depth1 (Of k) place level stands2 at.0 (of_used k) inside2 list2
 
   pub moved_on_to : IsMovedTo ids ids3 (slice_set free1 level place) o k (Far level' len to mark)
@@ -169,14 +169,14 @@ moved_on ids free ids1 free1 ids2 level level' len place to mark t level_in fits
     moved_on_to ids free ids1 free1 ids2 level level' len place to mark t level_in fits many same o depth k stands at
 
 -- a list goes back in place, and its block is given back
-pub brought_back : (ids free few : List ℕ) (level len place mark : ℕ) → len ≤ 3 → length few ≡ 3 → IsMoved ids free (Far level len place mark) (slice_set ids place (slice_index free level)) (slice_set free level place) (Near len mark few)
-brought_back ids free few level len place mark fits three = λ o depth k stands at.
+pub brought_back : (ids free few : List ℕ) (level len place mark len' mark' : ℕ) → len' ≤ 3 → (mark ≤ len → mark' ≤ len') → length few ≡ 3 → IsMoved ids free (Far level len place mark) (slice_set ids place (slice_index free level)) (slice_set free level place) (Near len' mark' few)
+brought_back ids free few level len place mark len' mark' fits marked three = λ o depth k stands at.
     let many : length (slice_set ids place (slice_index free level)) ≡ length ids = length-set ids place (slice_index free level) in
     record {
       o' = given o place (room_of level) (Free level (depth level));
       depth' = with_depth depth level (suc (depth level));
       stands = returned ids free o depth (Of k) place level stands at.0 (of_used k) at.3 at.4;
-      at = (fits, at.2, three);
+      at = (fits, marked at.2, three);
       longer = omega arith;
       kept = λ j apart. kept_given_by ids (slice_set ids place (slice_index free level)) o place (room_of level) (Of k) (Free level (depth level)) (Of j) at.4 (of_apart k j apart)
           (set_outside ids place (room_of level) place (slice_index free level) (omega arith) (omega (arith, room_some level)));

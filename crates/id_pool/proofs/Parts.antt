@@ -6,7 +6,7 @@ use Rattle.std.proofs.lemmas.Bool.{cases_lt, cases_eq}
 use Rattle.std.proofs.Math.Seq.{take-set-lt}
 use Rattle.std.proofs.lemmas.List.{ext_get_or, get_or_default, get_or-take, get_or-drop, length-take-le, length_push, get_or_append_left, get_or_push}
 use Rattle.id_pool.specs.Blocks.{Owner, Hand, Of, IsGivenTo, IsGiven, room_of}
-use Rattle.id_pool.specs.Heads.{Far, IsPlaced}
+use Rattle.id_pool.specs.Heads.{Far, IsPlacedInPool}
 use Rattle.id_pool.proofs.Places.{owner_first, room_some}
 use Rattle.id_pool.proofs.Moves.{hand_of}
 
@@ -67,7 +67,7 @@ part_set ids place len at id inside at_in =
     many = length_part (set ids (place + at) id) place len (omega (arith, length-set ids (place + at) id))
 
 -- the ids are copied into another block, and their own gets a mark in front
-pub carried : (ids free ids1 free1 ids2 : List ℕ) (level level' len place to mark n x : ℕ) → IsPlaced ids free (Far level len place mark) → IsGiven ids free ids1 free1 to level' → len ≤ room_of level' → n ≡ len → length ids2 ≡ length ids1 → CopiedTo ids1 ids2 place to n → take len (drop to (set ids2 place x)) ≡ take len (drop place ids)
+pub carried : (ids free ids1 free1 ids2 : List ℕ) (level level' len place to mark n x : ℕ) → IsPlacedInPool ids free (Far level len place mark) → IsGiven ids free ids1 free1 to level' → len ≤ room_of level' → n ≡ len → length ids2 ≡ length ids1 → CopiedTo ids1 ids2 place to n → take len (drop to (set ids2 place x)) ≡ take len (drop place ids)
 carried ids free ids1 free1 ids2 level level' len place to mark n x placed t fits all many copied =
     same_part ids (set ids2 place x) place to len (omega (arith, placed.at.1, placed.at.3)) (omega (arith, t.inside, length-set ids2 place x))
     (λ i h.

@@ -3,7 +3,7 @@ use Rattle.std.specs.Prelude.{◌≡◌, ℕ, ◌<◌, ◌≤◌, cond, List}
 use Rattle.std.proofs.Common.{sym, ◌∙◌, ap, subst, arith}
 use Rattle.std.proofs.lemmas.Bool.{lt-ltb, le-ltb}
 use Rattle.id_pool.specs.declared.head.Head.{Head}
-use Rattle.id_pool.specs.Heads.{Shape, Near, shape, far_of, IsPlaced, IsMoved, held_of, ids_of}
+use Rattle.id_pool.specs.Heads.{Shape, Near, shape, far_of, IsPlacedInPool, IsMoved, held_of, ids_of}
 use Rattle.id_pool.specs.Lists.{Held}
 
 pub near_is : (h : Head) → h.len ≤ 3 → shape h ≡ Near h.len h.mark h.few
@@ -12,11 +12,11 @@ near_is h few = ap (λ b. cond b (far_of h) (Near h.len h.mark h.few)) (le-ltb 3
 pub far_is : (h : Head) → 3 < h.len → shape h ≡ far_of h
 far_is h many = ap (λ b. cond b (far_of h) (Near h.len h.mark h.few)) (lt-ltb 3 h.len many)
 
-pub as_near : (ids free : List ℕ) (h : Head) → h.len ≤ 3 → IsPlaced ids free (shape h) → IsPlaced ids free (Near h.len h.mark h.few)
-as_near ids free h few placed = subst (λ (s : Shape). IsPlaced ids free s) (near_is h few) placed
+pub as_near : (ids free : List ℕ) (h : Head) → h.len ≤ 3 → IsPlacedInPool ids free (shape h) → IsPlacedInPool ids free (Near h.len h.mark h.few)
+as_near ids free h few placed = subst (λ (s : Shape). IsPlacedInPool ids free s) (near_is h few) placed
 
-pub as_far : (ids free : List ℕ) (h : Head) → 3 < h.len → IsPlaced ids free (shape h) → IsPlaced ids free (far_of h)
-as_far ids free h many placed = subst (λ (s : Shape). IsPlaced ids free s) (far_is h many) placed
+pub as_far : (ids free : List ℕ) (h : Head) → 3 < h.len → IsPlacedInPool ids free (shape h) → IsPlacedInPool ids free (far_of h)
+as_far ids free h many placed = subst (λ (s : Shape). IsPlacedInPool ids free s) (far_is h many) placed
 
 -- a move between two shapes is one between the heads that have them
 pub moved_as : (ids free ids' free' : List ℕ) (h h' : Head) (s s' : Shape) → shape h ≡ s → shape h' ≡ s' → IsMoved ids free s ids' free' s' → IsMoved ids free (shape h) ids' free' (shape h')

@@ -3,7 +3,7 @@ use Rattle.std.specs.Prelude.{◌≡◌, ℕ, ◌+◌, ◌-◌, ◌<◌, ◌≤�
 use Rattle.std.specs.List.{swap_remove}
 use Rattle.std.proofs.Common.{◌∙◌, ap, arith, get_or, set, length-set}
 use Rattle.id_pool.specs.Blocks.{room_of}
-use Rattle.id_pool.specs.Heads.{Near, Far, IsPlaced, IsMoved, held_of}
+use Rattle.id_pool.specs.Heads.{Near, Far, IsPlacedInPool, IsMoved, held_of}
 use Rattle.id_pool.specs.Lists.{IsMarkedAt, IsTakenAt}
 use Rattle.id_pool.proofs.Moves.{IsSameOutside, stays_near, written, set_outside, outside_then}
 use Rattle.id_pool.proofs.Parts.{part_swap, part_close, few_swap, few_close}
@@ -16,7 +16,7 @@ two_outside ids place room i j x y i_in j_in =
 pub two_many : (ids : List ℕ) (i j x y : ℕ) → length (set (set ids i x) j y) ≡ length ids
 two_many ids i j x y = length-set (set ids i x) j y ∙ length-set ids i x
 
-module _ (ids free : List ℕ) (level len place mark at : ℕ) (placed : IsPlaced ids free (Far level len place mark)) (inside : at < len) where
+module _ (ids free : List ℕ) (level len place mark at : ℕ) (placed : IsPlacedInPool ids free (Far level len place mark)) (inside : at < len) where
   part_in : place + len ≤ length ids
   part_in = omega (arith, placed.at.1, placed.at.3)
 
@@ -73,7 +73,7 @@ module _ (ids free : List ℕ) (level len place mark at : ℕ) (placed : IsPlace
 
 -- ---- the same of a list in place
 
-module _ (ids free few : List ℕ) (len mark at : ℕ) (placed : IsPlaced ids free (Near len mark few)) (inside : at < len) where
+module _ (ids free few : List ℕ) (len mark at : ℕ) (placed : IsPlacedInPool ids free (Near len mark few)) (inside : at < len) where
   fits : len ≤ length few
   fits = omega (arith, placed.at.0, placed.at.2)
 

@@ -2,7 +2,7 @@
 use Rattle.std.specs.Prelude.{◌≡◌, ◌≢◌, ℕ, ◌+◌, ◌<◌, ◌≤◌, nat_lt, List, [], ◌∷◌, ◌++◌, length, take, drop, slice_index, if◌then◌else◌}
 use Rattle.id_pool.specs.declared.head.Head.{Head}
 use Rattle.id_pool.specs.Lists.{Held}
-use Rattle.id_pool.specs.Blocks.{Owner, Of, Stands, Owns, IsKept, room_of}
+use Rattle.id_pool.specs.Blocks.{Owner, Of, HasOneOwnerEach, Owns, OwnerKeeps, room_of}
 
 -- a list in place, with its length, its marks and its three places, or in a block, with its level, length, place and
 -- marks
@@ -41,25 +41,25 @@ IsAt ids o k (Far level len place mark) =
     × Owns o (Of k) place (room_of level)
 
 -- it stands as some list can
-pub record IsPlaced (ids free : List ℕ) (h : Shape) : Type 0 where
+pub record IsPlacedInPool (ids free : List ℕ) (h : Shape) : Type 0 where
   pub k : ℕ
   pub o : ℕ → Owner
   pub depth : ℕ → ℕ
-  pub stands : Stands ids free o depth
+  pub stands : HasOneOwnerEach ids free o depth
   pub at : IsAt ids o k h
 
 pub record IsMovedTo (ids ids' free' : List ℕ) (o : ℕ → Owner) (k : ℕ) (h' : Shape) : Type 0 where
   pub o' : ℕ → Owner
   pub depth' : ℕ → ℕ
-  pub stands : Stands ids' free' o' depth'
+  pub stands : HasOneOwnerEach ids' free' o' depth'
   pub at : IsAt ids' o' k h'
   pub longer : length ids ≤ length ids'
-  pub kept : (j : ℕ) → j ≢ k → IsKept ids ids' o o' (Of j)
+  pub kept : (j : ℕ) → j ≢ k → OwnerKeeps ids ids' o o' (Of j)
 
 -- whichever list stood in the one place stands in the other now, and the others keep what they have
 abbrev pub IsMoved : List ℕ → List ℕ → Shape → List ℕ → List ℕ → Shape → Type 0
-IsMoved ids free h ids' free' h' = (o : ℕ → Owner) (depth : ℕ → ℕ) (k : ℕ) → Stands ids free o depth → IsAt ids o k h
-    → IsMovedTo ids ids' free' o k h'
+IsMoved ids free h ids' free' h' = (o : ℕ → Owner) (depth : ℕ → ℕ) (k : ℕ)
+    → HasOneOwnerEach ids free o depth → IsAt ids o k h → IsMovedTo ids ids' free' o k h'
 
 -- an empty list stands behind the others
 pub record IsOneMore (old new : List Head) : Type 0 where

@@ -2,7 +2,7 @@
 use Rattle.std.specs.Prelude.{ℕ, ◌<◌, List, length, map, slice_index_or}
 use Rattle.id_pool.specs.declared.head.Head.{Head}
 use Rattle.id_pool.specs.declared.lists.Lists.TheInside.{Inside}
-use Rattle.id_pool.specs.Blocks.{Owner, Stands}
+use Rattle.id_pool.specs.Blocks.{Owner, HasOneOwnerEach}
 use Rattle.id_pool.specs.Heads.{IsAt, held_of, shape}
 use Rattle.id_pool.specs.Lists.{Held}
 
@@ -16,7 +16,7 @@ view_of l = lists_of l.blocks.ids.items l.heads.items
 pub record IsLaid (heads : List Head) (ids free : List ℕ) : Type 0 where
   pub o : ℕ → Owner
   pub depth : ℕ → ℕ
-  pub stands : Stands ids free o depth
+  pub stands : HasOneOwnerEach ids free o depth
   pub each : (k : ℕ) (d : Head) → k < length heads → IsAt ids o k (shape (slice_index_or heads k d))
 
 abbrev pub IsSound : Inside → Type 0

@@ -1,9 +1,9 @@
 //! Where one list stands.
 
-ghost use Rattle.std.specs.Prelude.{◌≡◌, ◌≢◌, ℕ, zero, suc, ◌+◌, ◌-◌, ◌*◌, ◌^◌, ◌<◌, ◌≤◌, length, slice_index, slice_set, [], ◌∷◌, ◌++◌, take, drop, OnOk, OnErr, IfOk};
+ghost use Rattle.std.specs.Prelude.{◌≡◌, ◌≢◌, ℕ, zero, suc, ◌+◌, ◌-◌, ◌*◌, ◌^◌, ◌<◌, ◌≤◌, length, slice_get, slice_index, slice_set, Some, Contains, [], ◌∷◌, ◌++◌, take, drop, OnOk, OnErr, IfOk};
 ghost use Rattle.id_pool.specs.Blocks.{IsStanding, room_of};
-ghost use Rattle.id_pool.specs.Heads.{Near, Far, shape, far_of, IsOneMore, IsPlaced, IsMoved, held_of, ids_of, len_of, mark_of};
-ghost use Rattle.id_pool.specs.Lists.{IsMarkedAt, IsTakenAt};
+ghost use Rattle.id_pool.specs.Heads.{Near, Far, shape, far_of, IsOneMore, IsPlacedInPool, IsMoved, held_of, ids_of, len_of, mark_of};
+ghost use Rattle.id_pool.specs.Lists.{IsMarkedAt, IsTakenAt, no_ids};
 
 use crate::blocks::{Blocks, LEVELS, room};
 use apsp_model::Memory;
@@ -40,7 +40,7 @@ impl Head {
     /// The ids of the list.
     #[inline(always)]
     pub(crate) fn ids<'a>(&'a self, blocks: &'a Blocks) -> &'a [PathId]
-        requires { IsPlaced blocks.now.ids.items blocks.now.free (shape self.now) }
+        requires { IsPlacedInPool blocks.now.ids.items blocks.now.free (shape self.now) }
         ensures { result.now ≡ ids_of blocks.now.ids.items (shape self.now) }
     {
         let len = self.len as usize;
@@ -55,7 +55,7 @@ impl Head {
     /// The marked ids, which stand in front.
     #[inline(always)]
     pub(crate) fn marked_ids<'a>(&'a self, blocks: &'a Blocks) -> &'a [PathId]
-        requires { IsPlaced blocks.now.ids.items blocks.now.free (shape self.now) }
+        requires { IsPlacedInPool blocks.now.ids.items blocks.now.free (shape self.now) }
         ensures { result.now ≡ take (mark_of (shape self.now)) (ids_of blocks.now.ids.items (shape self.now)) }
     {
         let mark = self.mark as usize;
@@ -67,10 +67,23 @@ impl Head {
         }
     }
 
+    /// The place of an id that stands there.
+    #[inline(always)]
+    pub(crate) fn place_of(&self, blocks: &Blocks, id: PathId) -> usize
+        requires placed { IsPlacedInPool blocks.now.ids.items blocks.now.free (shape self.now) }
+        requires here { Contains (ids_of blocks.now.ids.items (shape self.now)) id }
+        ensures { slice_get (ids_of blocks.now.ids.items (shape self.now)) result ≡ Some id }
+    {
+        if self.len > 3 {
+            return place_in(self.ids(blocks), id);
+        }
+        place_among(&self.few, id)
+    }
+
     /// Puts an id behind the others. Memory changes nothing.
     #[inline(always)]
     pub(crate) fn put(&mut self, blocks: &mut Blocks, id: PathId) -> Result<(), Memory>
-        requires { IsPlaced blocks.old.ids.items blocks.old.free (shape self.old) }
+        requires { IsPlacedInPool blocks.old.ids.items blocks.old.free (shape self.old) }
         ensures moved { OnOk result
             (IsMoved blocks.old.ids.items blocks.old.free (shape self.old) blocks.new.ids.items blocks.new.free
             (shape self.new)) }
@@ -93,7 +106,7 @@ impl Head {
     /// Puts an id behind three or more. Memory changes nothing.
     #[inline(never)]
     fn put_far(&mut self, blocks: &mut Blocks, id: PathId) -> Result<(), Memory>
-        requires placed { IsPlaced blocks.old.ids.items blocks.old.free (shape self.old) }
+        requires placed { IsPlacedInPool blocks.old.ids.items blocks.old.free (shape self.old) }
         requires many { 3 ≤ len_of (shape self.old) }
         ensures moved { OnOk result
             (IsMoved blocks.old.ids.items blocks.old.free (shape self.old) blocks.new.ids.items blocks.new.free
@@ -157,7 +170,7 @@ impl Head {
     /// Marks the id at a place, which changes places with the first one that is not marked.
     #[inline(always)]
     pub(crate) fn mark_at(&mut self, blocks: &mut Blocks, at: usize)
-        requires placed { IsPlaced blocks.old.ids.items blocks.old.free (shape self.old) }
+        requires placed { IsPlacedInPool blocks.old.ids.items blocks.old.free (shape self.old) }
         requires plain { mark_of (shape self.old) ≤ at }
         requires inside { at < len_of (shape self.old) }
         ensures moved { IsMoved blocks.old.ids.items blocks.old.free
@@ -178,7 +191,7 @@ impl Head {
 
     /// Marks an id of a block.
     fn mark_far(&mut self, blocks: &mut Blocks, at: usize)
-        requires placed { IsPlaced blocks.old.ids.items blocks.old.free (far_of self.old) }
+        requires placed { IsPlacedInPool blocks.old.ids.items blocks.old.free (far_of self.old) }
         requires many { 3 < self.old.len }
         requires plain { self.old.mark ≤ at }
         requires inside { at < self.old.len }
@@ -200,7 +213,7 @@ impl Head {
     /// one of all takes the place that is free then.
     #[inline(always)]
     pub(crate) fn take_at(&mut self, blocks: &mut Blocks, at: usize)
-        requires placed { IsPlaced blocks.old.ids.items blocks.old.free (shape self.old) }
+        requires placed { IsPlacedInPool blocks.old.ids.items blocks.old.free (shape self.old) }
         requires inside { at < len_of (shape self.old) }
         ensures moved { IsMoved blocks.old.ids.items blocks.old.free
             (shape self.old) blocks.new.ids.items blocks.new.free (shape self.new) }
@@ -229,7 +242,7 @@ impl Head {
     /// Takes an id out of a block. Three ids stand in place again.
     #[inline(never)]
     fn take_far(&mut self, blocks: &mut Blocks, at: usize)
-        requires placed { IsPlaced blocks.old.ids.items blocks.old.free (far_of self.old) }
+        requires placed { IsPlacedInPool blocks.old.ids.items blocks.old.free (far_of self.old) }
         requires many { 3 < self.old.len }
         requires inside { at < self.old.len }
         ensures moved { IsMoved blocks.old.ids.items blocks.old.free
@@ -246,7 +259,7 @@ impl Head {
     /// Takes an id out of a block, in which the others stay.
     #[inline(always)]
     fn close(&mut self, blocks: &mut Blocks, at: usize)
-        requires placed { IsPlaced blocks.old.ids.items blocks.old.free (far_of self.old) }
+        requires placed { IsPlacedInPool blocks.old.ids.items blocks.old.free (far_of self.old) }
         requires inside { at < self.old.len }
         ensures moved { IsMoved blocks.old.ids.items blocks.old.free
             (far_of self.old) blocks.new.ids.items blocks.new.free (far_of self.new) }
@@ -273,7 +286,7 @@ impl Head {
     /// Three ids stand in place again, and their block is free.
     #[inline(always)]
     fn stand_in_place(&mut self, blocks: &mut Blocks)
-        requires placed { IsPlaced blocks.old.ids.items blocks.old.free (far_of self.old) }
+        requires placed { IsPlacedInPool blocks.old.ids.items blocks.old.free (far_of self.old) }
         requires three { self.old.len ≡ 3 }
         ensures moved { IsMoved blocks.old.ids.items blocks.old.free
             (far_of self.old) blocks.new.ids.items blocks.new.free (shape self.new) }
@@ -286,6 +299,58 @@ impl Head {
         self.few[2] = blocks.ids[start + 2];
         blocks.give_back(start, level);
     }
+
+    /// Takes out all ids.
+    #[inline(always)]
+    pub(crate) fn clear(&mut self, blocks: &mut Blocks)
+        requires { IsPlacedInPool blocks.old.ids.items blocks.old.free (shape self.old) }
+        ensures moved { IsMoved blocks.old.ids.items blocks.old.free
+            (shape self.old) blocks.new.ids.items blocks.new.free (shape self.new) }
+        ensures none { held_of blocks.new.ids.items (shape self.new) ≡ no_ids }
+    {
+        if self.len > 3 {
+            self.clear_far(blocks);
+            return;
+        }
+        self.len = 0;
+        self.mark = 0;
+    }
+
+    /// Gives the block back.
+    fn clear_far(&mut self, blocks: &mut Blocks)
+        requires placed { IsPlacedInPool blocks.old.ids.items blocks.old.free (far_of self.old) }
+        ensures moved { IsMoved blocks.old.ids.items blocks.old.free
+            (far_of self.old) blocks.new.ids.items blocks.new.free (shape self.new) }
+        ensures none { held_of blocks.new.ids.items (shape self.new) ≡ no_ids }
+    {
+        blocks.give_back(self.place(), self.level());
+        self.len = 0;
+        self.mark = 0;
+    }
+}
+
+/// The place of an id that stands there. An id is mostly looked for soon after it was put in, so the
+/// search begins at the back.
+#[inline(never)]
+fn place_in(ids: &[PathId], id: PathId) -> usize
+    requires { Contains ids.now id }
+    ensures { slice_get ids.now result ≡ Some id }
+{
+    let mut place = ids.len() - 1;
+    'looking: while ids[place] != id {
+        place -= 1;
+    }
+    place
+}
+
+/// The first place of an id among three, of which it is one: the last where it is neither of the
+/// others. It is chosen without a branch.
+#[inline(always)]
+fn place_among(few: &[PathId; 3], id: PathId) -> usize
+    ensures { (len : ℕ) → Contains (take len few.now) id → slice_get (take len few.now) result ≡ Some id }
+{
+    let behind = if few[1] == id { 1 } else { 2 };
+    if few[0] == id { 0 } else { behind }
 }
 
 /// Puts three ids in front of a block that is taken for them. Memory changes nothing.
@@ -312,7 +377,7 @@ fn spill(few: [PathId; 3], blocks: &mut Blocks) -> Result<usize, Memory>
 /// Moves the ids of a block into one of the next level, and gives theirs back. Memory changes
 /// nothing.
 fn grow(blocks: &mut Blocks, level: usize, len: usize, place: usize) -> Result<usize, Memory>
-    requires { IsPlaced blocks.old.ids.items blocks.old.free (Far level len place 0) }
+    requires { IsPlacedInPool blocks.old.ids.items blocks.old.free (Far level len place 0) }
     ensures level { IfOk result (λ _. level + 1 < 13) }
     ensures moved { IfOk result
         (λ to. (mark : ℕ)

@@ -1,6 +1,6 @@
 //! The lists by number.
 
-ghost use Rattle.std.specs.Prelude.{◌≡◌, ℕ, ◌+◌, ◌-◌, ◌<◌, ◌≤◌, [], ◌∷◌, ◌++◌, length, take, OnOk, OnErr};
+ghost use Rattle.std.specs.Prelude.{◌≡◌, ℕ, ◌+◌, ◌-◌, ◌<◌, ◌≤◌, [], ◌∷◌, ◌++◌, length, take, slice_get, Some, Contains, OnOk, OnErr};
 ghost use Rattle.id_pool.specs.Lists.{Held, IsChanged, IsMarkedAt, IsTakenAt, no_ids, list_at, ids_at, marked_at};
 
 use crate::blocks::Blocks;
@@ -85,6 +85,18 @@ impl Lists {
         head.marked_ids(&self.blocks)
     }
 
+    /// The place of an id that stands in a list, in time of the ids behind it.
+    #[inline(always)]
+    pub fn place_of(&self, list: usize, id: PathId) -> usize
+        requires inside { list < length self.now }
+        requires here { Contains (ids_at self.now list) id }
+        ensures place { slice_get (ids_at self.now list) result ≡ Some id }
+        ensures most { marked_at self.now list ≤ length (ids_at self.now list) }
+    {
+        let head = &self.heads[list];
+        head.place_of(&self.blocks, id)
+    }
+
     /// Puts an id behind the others, in constant time; where the list is full its ids move into a block
     /// of twice the room. One id more than 32768 is want of memory. Memory changes nothing.
     #[inline(always)]
@@ -127,5 +139,17 @@ impl Lists {
     {
         let head = &mut self.heads[list];
         head.take_at(&mut self.blocks, at);
+    }
+
+    /// Takes all ids out of a list, in constant time. A list that had more than three gives its block
+    /// back.
+    #[inline(always)]
+    pub fn clear(&mut self, list: usize)
+        requires { list < length self.old }
+        ensures only { IsChanged self.old self.new list }
+        ensures none { list_at self.new list ≡ no_ids }
+    {
+        let head = &mut self.heads[list];
+        head.clear(&mut self.blocks);
     }
 }

@@ -46,6 +46,11 @@ impl Plain {
         }
     }
 
+    fn clear(&mut self) {
+        self.ids.clear();
+        self.marked = 0;
+    }
+
     fn is_same(&self, lists: &Lists, list: usize) -> bool
         requires { list < length lists.now }
     {
@@ -98,7 +103,7 @@ fn two_lists_are_as_their_contracts_say(rt: HostRuntime) -> Result<(), Fail> {
     let mut odd = Plain::new(rt.alloc());
     let mut number = 7u32;
     // So many of eight changes put an id into the one list and into the other: each grows past
-    // several sizes of blocks and shrinks.
+    // several sizes of blocks and shrinks. The other is cleared at the end of each phase.
     'phases: for (puts, others, steps) in [(6, 2, 60), (1, 7, 90), (7, 1, 300), (2, 6, 500)] {
         'steps: for _step in 0..steps {
             number = (75 * number + 74) % 65537;
@@ -108,6 +113,10 @@ fn two_lists_are_as_their_contracts_say(rt: HostRuntime) -> Result<(), Fail> {
             assert!(rt; even.is_same(&lists, 0));
             assert!(rt; odd.is_same(&lists, 1));
         }
+        lists.clear(1);
+        odd.clear();
+        assert!(rt; even.is_same(&lists, 0));
+        assert!(rt; odd.is_same(&lists, 1));
     }
     Ok(())
 }

@@ -9,21 +9,21 @@ use Rattle.std.proofs.Common.{sym, ◌∙◌, ap, subst, inl, inr, arith, get_or
 use Rattle.apsp_model.specs.Order.{path_cmp}
 use Rattle.apsp_model.specs.Walk.{first, last}
 use Rattle.apsp_model.proofs.Members.{in_nil as contains_nil}
-use Rattle.path_arena.specs.Arena.{Arena, Path, path_at, with_path, no_path, IsArena, IsLive, list_of, weight_of, id_cmp}
-use Rattle.pair_heaps.specs.Heaps.{Pair, Heaps, held_at, IsHeld, IsHeap, HasEnds, Fits, AgreeOnHeld, ChangesOnly, place_of, pair_at}
+use Rattle.path_arena.specs.Arena.{Arena, Path, path_at, with_path, no_path, IsArena, IsLive, list_of, weight_of_id, id_cmp}
+use Rattle.pair_heaps.specs.Heaps.{Pair, Heaps, held_at, IsHeld, IsHeap, HasEnds, HeapsFit, AgreeOnHeapIds, ChangesOnly, place_of, pair_at}
 use Rattle.pair_heaps.specs.Rows.{heaps_of, IsHeaps}
 use Rattle.pair_heaps.proofs.Sifted.{heap_same}
 use Rattle.pair_heaps.proofs.Places.{same_pair, ends_inside, at_ends, IsWritten, written}
 
 -- the order of two ids depends on their lists and weights alone
-id_cmp_same : (a b : Arena) (p q : ℕ) → list_of b p ≡ list_of a p → weight_of b p ≡ weight_of a p → list_of b q ≡ list_of a q → weight_of b q ≡ weight_of a q → id_cmp b p q ≡ id_cmp a p q
+id_cmp_same : (a b : Arena) (p q : ℕ) → list_of b p ≡ list_of a p → weight_of_id b p ≡ weight_of_id a p → list_of b q ≡ list_of a q → weight_of_id b q ≡ weight_of_id a q → id_cmp b p q ≡ id_cmp a p q
 id_cmp_same a b p q lp wp lq wq =
-    ap (λ w. path_cmp w (list_of b p) (weight_of b q) (list_of b q)) wp
-    ∙ ap (λ l. path_cmp (weight_of a p) l (weight_of b q) (list_of b q)) lp
-    ∙ ap (λ w. path_cmp (weight_of a p) (list_of a p) w (list_of b q)) wq
-    ∙ ap (λ l. path_cmp (weight_of a p) (list_of a p) (weight_of a q) l) lq
+    ap (λ w. path_cmp w (list_of b p) (weight_of_id b q) (list_of b q)) wp
+    ∙ ap (λ l. path_cmp (weight_of_id a p) l (weight_of_id b q) (list_of b q)) lp
+    ∙ ap (λ w. path_cmp (weight_of_id a p) (list_of a p) w (list_of b q)) wq
+    ∙ ap (λ l. path_cmp (weight_of_id a p) (list_of a p) (weight_of_id a q) l) lq
 
-pub fits_agree : (h : Heaps) (a b : Arena) → Fits h a → AgreeOnHeld h a b → Fits h b
+pub fits_agree : (h : Heaps) (a b : Arena) → HeapsFit h a → AgreeOnHeapIds h a b → HeapsFit h b
 fits_agree h a b fits agree = record {
   vertices = agree.vertices ∙ fits.vertices;
   live = λ x y id c. agree.live id (x, y, c);
@@ -34,7 +34,7 @@ fits_agree h a b fits agree = record {
 }
 
 -- heaps that hold the same ids of each pair fit the same arenas
-pub fits_same : (h k : Heaps) (a : Arena) → k.vertices ≡ h.vertices → ((x y : ℕ) → held_at k x y ≡ held_at h x y) → Fits h a → Fits k a
+pub fits_same : (h k : Heaps) (a : Arena) → k.vertices ≡ h.vertices → ((x y : ℕ) → held_at k x y ≡ held_at h x y) → HeapsFit h a → HeapsFit k a
 fits_same h k a vertices same fits = record {
   vertices = fits.vertices ∙ sym vertices;
   live = λ x y id c. fits.live x y id (subst (λ ids. Contains ids id) (same x y) c);
@@ -43,7 +43,7 @@ fits_same h k a vertices same fits = record {
 }
 
 -- heaps that hold nothing fit every arena of as many vertices
-pub fits_empty : (h : Heaps) (a : Arena) → a.vertices ≡ h.vertices → ((x y : ℕ) → held_at h x y ≡ []) → Fits h a
+pub fits_empty : (h : Heaps) (a : Arena) → a.vertices ≡ h.vertices → ((x y : ℕ) → held_at h x y ≡ []) → HeapsFit h a
 fits_empty h a vertices none = record {
   vertices = vertices;
   live = λ x y id c. absurd (contains_nil id (subst (λ ids. Contains ids id) (none x y) c));
@@ -52,7 +52,7 @@ fits_empty h a vertices none = record {
 }
 
 -- what the changed pair has to have
-pub fits_changed : (h k : Heaps) (a : Arena) (x y : ℕ) → Fits h a → ChangesOnly h k x y → ((id : ℕ) → Contains (held_at k x y) id → IsLive a id × HasEnds a id x y) → IsHeap a (held_at k x y) → Fits k a
+pub fits_changed : (h k : Heaps) (a : Arena) (x y : ℕ) → HeapsFit h a → ChangesOnly h k x y → ((id : ℕ) → Contains (held_at k x y) id → IsLive a id × HasEnds a id x y) → IsHeap a (held_at k x y) → HeapsFit k a
 fits_changed h k a x y fits only here arranged = record {
   vertices = fits.vertices ∙ sym only.vertices;
   live = λ u v id c. elim (same_pair x y u v) [
@@ -77,24 +77,24 @@ fits_changed h k a x y fits only here arranged = record {
 
 -- ---- the pair of a path
 
-pub ends_in_rows : (h : Heaps) (a : Arena) (id x y : ℕ) → Fits h a → IsArena a → IsLive a id → HasEnds a id x y → (x < h.vertices) × (y < h.vertices)
+pub ends_in_rows : (h : Heaps) (a : Arena) (id x y : ℕ) → HeapsFit h a → IsArena a → IsLive a id → HasEnds a id x y → (x < h.vertices) × (y < h.vertices)
 ends_in_rows h a id x y fits lawful live ends =
     let inside : (x < a.vertices) × (y < a.vertices) = ends_inside a id x y lawful live ends in
     let as_many : a.vertices ≡ h.vertices = fits.vertices in
     (omega (arith, inside.0), omega (arith, inside.1))
 
 -- the ids that were in the vector are live
-pub live_before : (h k : Heaps) (a : Arena) (x y : ℕ) (p q : Pair) → IsWritten h k x y p q → Fits h a → (id : ℕ) → Contains p.held id → IsLive a id
+pub live_before : (h k : Heaps) (a : Arena) (x y : ℕ) (p q : Pair) → IsWritten h k x y p q → HeapsFit h a → (id : ℕ) → Contains p.held id → IsLive a id
 live_before h k a x y p q w fits id c = fits.live x y id (subst (λ (r : Pair). Contains r.held id) (sym w.was) c)
 
-pub ends_before : (h k : Heaps) (a : Arena) (x y : ℕ) (p q : Pair) → IsWritten h k x y p q → Fits h a → (id : ℕ) → Contains p.held id → HasEnds a id x y
+pub ends_before : (h k : Heaps) (a : Arena) (x y : ℕ) (p q : Pair) → IsWritten h k x y p q → HeapsFit h a → (id : ℕ) → Contains p.held id → HasEnds a id x y
 ends_before h k a x y p q w fits id c = fits.ends x y id (subst (λ (r : Pair). Contains r.held id) (sym w.was) c)
 
-pub arranged_before : (h k : Heaps) (a : Arena) (x y : ℕ) (p q : Pair) → IsWritten h k x y p q → Fits h a → IsHeap a p.held
+pub arranged_before : (h k : Heaps) (a : Arena) (x y : ℕ) (p q : Pair) → IsWritten h k x y p q → HeapsFit h a → IsHeap a p.held
 arranged_before h k a x y p q w fits = subst (λ (r : Pair). IsHeap a r.held) w.was (fits.arranged x y)
 
 -- a held id is in the vector of its pair
-pub held_before : (h k : Heaps) (a : Arena) (id x y : ℕ) (p q : Pair) → IsWritten h k x y p q → Fits h a → HasEnds a id x y → IsHeld h id → Contains p.held id
+pub held_before : (h k : Heaps) (a : Arena) (id x y : ℕ) (p q : Pair) → IsWritten h k x y p q → HeapsFit h a → HasEnds a id x y → IsHeld h id → Contains p.held id
 held_before h k a id x y p q w fits ends held =
     subst (λ (r : Pair). Contains r.held id) w.was
     (at_ends a id held.0 held.1 (λ u v. Contains (held_at h u v) id) (fits.ends held.0 held.1 id held.2) held.2 x y ends)
@@ -107,7 +107,7 @@ pub record IsPairOf (h : Heaps) (a : Arena) (x y : ℕ) (p : Pair) : Type 0 wher
   pub held : (id : ℕ) → HasEnds a id x y → IsHeld h id → Contains p.held id
   pub fresh : (id : ℕ) → (IsHeld h id → ⊥) → Contains p.held id → ⊥
 
-pub pair_of_place : (n : ℕ) (items : List Pair) (h : Heaps) (a : Arena) (x y k : ℕ) (v : Pair) → heaps_of n items ≡ h → IsHeaps (heaps_of n items) → Fits h a → x < h.vertices → y < h.vertices → k ≡ place_of h.vertices x y → v ≡ get_or items k v → IsPairOf h a x y v
+pub pair_of_place : (n : ℕ) (items : List Pair) (h : Heaps) (a : Arena) (x y k : ℕ) (v : Pair) → heaps_of n items ≡ h → IsHeaps (heaps_of n items) → HeapsFit h a → x < h.vertices → y < h.vertices → k ≡ place_of h.vertices x y → v ≡ get_or items k v → IsPairOf h a x y v
 pair_of_place n items h a x y k v is sound fits x_in y_in same at =
     let w : IsWritten h (heaps_of n (set items k v)) x y v v = written n items h x y k v v is sound x_in y_in same at in
     record {
@@ -119,7 +119,7 @@ pair_of_place n items h a x y k v is sound fits x_in y_in same at =
     }
 
 -- heaps that fit after one vector is replaced, where each id of it was there or is a live one of the pair
-pub fits_written : (h k : Heaps) (a : Arena) (id x y : ℕ) (p q : Pair) → IsWritten h k x y p q → Fits h a → IsLive a id → HasEnds a id x y → ((r : ℕ) → Contains q.held r → Contains p.held r ⊎ (r ≡ id)) → IsHeap a q.held → Fits k a
+pub fits_written : (h k : Heaps) (a : Arena) (id x y : ℕ) (p q : Pair) → IsWritten h k x y p q → HeapsFit h a → IsLive a id → HasEnds a id x y → ((r : ℕ) → Contains q.held r → Contains p.held r ⊎ (r ≡ id)) → IsHeap a q.held → HeapsFit k a
 fits_written h k a id x y p q w fits live ends only arranged =
     fits_changed h k a x y fits w.only
     (λ r c. elim (only r (subst (λ (s : Pair). Contains s.held r) w.now c)) [
@@ -131,11 +131,11 @@ fits_written h k a id x y p q w fits live ends only arranged =
 -- ---- a path added to the arena under an id that was not live
 
 pub record IsFreshIn (h : Heaps) (b : Arena) (id : ℕ) : Type 0 where
-  pub fits : Fits h b
+  pub fits : HeapsFit h b
   pub live : IsLive b id
   pub fresh : IsHeld h id → ⊥
 
-pub fresh_in : (h : Heaps) (a b : Arena) (id : ℕ) (p : Path) → Fits h a → path_at a id ≡ None → b ≡ with_path a id p → IsFreshIn h b id
+pub fresh_in : (h : Heaps) (a b : Arena) (id : ℕ) (p : Path) → HeapsFit h a → path_at a id ≡ None → b ≡ with_path a id p → IsFreshIn h b id
 fresh_in h a b id p fits gone added = subst (λ (m : Arena). IsFreshIn h m id) (sym added) (record {
   fits = fits_agree h a (with_path a id p) fits (record {
     vertices = refl;

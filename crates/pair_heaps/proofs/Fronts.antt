@@ -10,7 +10,7 @@ use Rattle.std.proofs.lemmas.List.Sorted.{IsPermutation-cons, IsPermutation-tran
 use Rattle.apsp_model.proofs.Members.{in_cons as contains_cons}
 use Rattle.path_arena.specs.Arena.{Arena}
 use Rattle.apsp_model.specs.Walk.{IsOnceEach}
-use Rattle.pair_heaps.specs.Heaps.{IsHeap, IsWith, IsWithout}
+use Rattle.pair_heaps.specs.Heaps.{IsHeap, IsWith, IsAllBut}
 use Rattle.pair_heaps.specs.Sifting.{IsRising, IsLoose}
 use Rattle.pair_heaps.proofs.Once.{with_moved, without_moved}
 use Rattle.pair_heaps.proofs.Sifted.{pushed_rises, pulled_loose, pulled_moved, pulled_last}
@@ -88,10 +88,10 @@ raised id n xs mid ys zs is moved long once fresh =
     subst (λ (ws : List ℕ). IsWith id xs ws) (sym (front_is ys zs n long)) (with_moved id xs ys (subst (λ (ws : List ℕ). IsPermutation ws ys) is moved) once fresh)
 
 -- one was taken out of the front, and what stands behind it cut off
-pub lowered : (id n : ℕ) (xs mid ys zs : List ℕ) → mid ≡ xs → length mid ≡ n → IsPermutation mid (id ∷ take (length mid - 1) ys) → length ys ≡ n → IsOnceEach xs → IsWithout id xs (take (n - 1) (take n (ys ++ zs)))
+pub lowered : (id n : ℕ) (xs mid ys zs : List ℕ) → mid ≡ xs → length mid ≡ n → IsPermutation mid (id ∷ take (length mid - 1) ys) → length ys ≡ n → IsOnceEach xs → IsAllBut id xs (take (n - 1) (take n (ys ++ zs)))
 lowered id n xs mid ys zs is as_long moved long once =
     let cut : take (n - 1) (take n (ys ++ zs)) ≡ take (length mid - 1) ys = ap (λ (ws : List ℕ). take (n - 1) ws) (front_is ys zs n long) ∙ ap (λ m. take (m - 1) ys) (sym as_long) in
-    subst (λ (ws : List ℕ). IsWithout id xs ws) (sym cut) (without_moved id xs (take (length mid - 1) ys) (subst (λ (ws : List ℕ). IsPermutation ws (id ∷ take (length mid - 1) ys)) is moved) once)
+    subst (λ (ws : List ℕ). IsAllBut id xs ws) (sym cut) (without_moved id xs (take (length mid - 1) ys) (subst (λ (ws : List ℕ). IsPermutation ws (id ∷ take (length mid - 1) ys)) is moved) once)
 
 -- the front of a front
 pub front_of : (xs ys zs : List ℕ) (len : ℕ) → len ≤ length xs → length ys ≡ length (take len xs) → take (len - 1) (ys ++ zs) ≡ take (length (take len xs) - 1) ys

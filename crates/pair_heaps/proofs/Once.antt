@@ -10,7 +10,7 @@ use Rattle.std.proofs.lemmas.List.Elements.{Contains-push_cases, Contains-append
 use Rattle.std.proofs.lemmas.List.Sorted.{IsPermutation-keeps, IsPermutation-sym, IsPermutation-to_front, Contains-permutation}
 use Rattle.apsp_model.specs.Walk.{IsOnceEach}
 use Rattle.apsp_model.proofs.Members.{in_cons as contains_cons}
-use Rattle.pair_heaps.specs.Heaps.{IsWith, IsWithout}
+use Rattle.pair_heaps.specs.Heaps.{IsWith, IsAllBut}
 
 -- entries at two places are two entries
 abbrev pub AreApart : List ℕ → Type 0
@@ -90,7 +90,7 @@ with_moved id old new moved once fresh = record {
   once = once_moved (old ++ id ∷ []) new moved (once_moved (id ∷ old) (old ++ id ∷ []) (IsPermutation-sym (old ++ id ∷ []) (id ∷ old) (IsPermutation-to_front old id)) (fresh, once));
 }
 
-pub without_moved : (id : ℕ) (old new : List ℕ) → IsPermutation old (id ∷ new) → IsOnceEach old → IsWithout id old new
+pub without_moved : (id : ℕ) (old new : List ℕ) → IsPermutation old (id ∷ new) → IsOnceEach old → IsAllBut id old new
 without_moved id old new moved once =
     let split : IsOnceEach (id ∷ new) = once_moved old (id ∷ new) moved once in
     record {

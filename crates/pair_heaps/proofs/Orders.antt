@@ -8,23 +8,23 @@ use Rattle.std.proofs.Common.{◌∙◌, ap}
 use Rattle.std.proofs.lemmas.Bool.{false≢true, true≢false}
 use Rattle.std.proofs.lemmas.Cmp.{nat_cmp_total, nat_list_cmp_total, on_total, then_total, tied_itself}
 use Rattle.apsp_model.specs.Walk.{hops_of}
-use Rattle.path_arena.specs.Arena.{Arena, weight_of, list_of, id_cmp}
-use Rattle.pair_heaps.specs.Heaps.{IsBelow}
+use Rattle.path_arena.specs.Arena.{Arena, weight_of_id, list_of, id_cmp}
+use Rattle.pair_heaps.specs.Heaps.{IsIdBelow}
 
 pub id_cmp_total : (a : Arena) → IsTotalOrder (id_cmp a)
-id_cmp_total a = then_total (on_total (weight_of a) nat_cmp_total) (then_total (on_total (λ id. hops_of (list_of a id)) nat_cmp_total) (on_total (list_of a) nat_list_cmp_total))
+id_cmp_total a = then_total (on_total (weight_of_id a) nat_cmp_total) (then_total (on_total (λ id. hops_of (list_of a id)) nat_cmp_total) (on_total (list_of a) nat_list_cmp_total))
 
-pub not_below_itself : (a : Arena) (p : ℕ) → IsBelow a p p → ⊥
+pub not_below_itself : (a : Arena) (p : ℕ) → IsIdBelow a p p → ⊥
 not_below_itself a p h = let e : id_cmp a p p ≡ Equal = tied_itself (id_cmp_total a) p in cc
 
-pub below_chain : (a : Arena) (p q r : ℕ) → IsBelow a p q → IsBelow a q r → IsBelow a p r
+pub below_chain : (a : Arena) (p q r : ℕ) → IsIdBelow a p q → IsIdBelow a q r → IsIdBelow a p r
 below_chain a p q r h k = (id_cmp_total a).trans p q r h k
 
 -- p is not above m, which is below id
-pub below_from : (a : Arena) (p m id : ℕ) → (IsBelow a m p → ⊥) → IsBelow a m id → IsBelow a p id
+pub below_from : (a : Arena) (p m id : ℕ) → (IsIdBelow a m p → ⊥) → IsIdBelow a m id → IsIdBelow a p id
 below_from a p m id upto below = go (id_cmp a p id) refl
   where
-    go : (o : Ordering) → id_cmp a p id ≡ o → IsBelow a p id
+    go : (o : Ordering) → id_cmp a p id ≡ o → IsIdBelow a p id
     go Less e = e
     go Equal e =
         let turned : id_cmp a id p ≡ Equal = (id_cmp_total a).antisymm id p ∙ ap ordering_reverse e in
@@ -32,7 +32,7 @@ below_from a p m id upto below = go (id_cmp a p id) refl
     go Greater e = absurd (upto ((id_cmp_total a).trans m id p below ((id_cmp_total a).antisymm id p ∙ ap ordering_reverse e)))
 
 -- m, which is not below id, is not above p
-pub not_below_from : (a : Arena) (p m id : ℕ) → (IsBelow a p m → ⊥) → (IsBelow a m id → ⊥) → IsBelow a p id → ⊥
+pub not_below_from : (a : Arena) (p m id : ℕ) → (IsIdBelow a p m → ⊥) → (IsIdBelow a m id → ⊥) → IsIdBelow a p id → ⊥
 not_below_from a p m id upto not_below below = not_below (below_from a m p id upto below)
 
 -- what a comparison with Less tells

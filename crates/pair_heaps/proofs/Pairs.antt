@@ -7,7 +7,7 @@ use Rattle.std.proofs.lemmas.Option.{slice_get-get_or}
 use Rattle.apsp_model.specs.Walk.{IsOnceEach}
 use Rattle.path_arena.specs.Arena.{Arena}
 use Rattle.pair_heaps.specs.declared.pair.Ids.{Ids}
-use Rattle.pair_heaps.specs.Heaps.{Pair, IsHeap, IsWith, IsWithout}
+use Rattle.pair_heaps.specs.Heaps.{Pair, IsHeap, IsWith, IsAllBut}
 use Rattle.pair_heaps.specs.Layout.{pair_of, front_of, IsPairHeap}
 use Rattle.pair_heaps.proofs.Once.{with_moved, without_moved}
 
@@ -29,7 +29,7 @@ pub record IsPutIn (a : Arena) (id : ℕ) (p : Pair) (now : Ids) : Type 0 where
 
 pub record IsTakenOut (a : Arena) (id : ℕ) (p : Pair) (now : Ids) : Type 0 where
   pub sound : IsPairHeap now
-  pub held : IsWithout id p.held (pair_of now).held
+  pub held : IsAllBut id p.held (pair_of now).held
   pub heap : IsHeap a (pair_of now).held
 
 pub put_in : (a : Arena) (id k room : ℕ) (p : Pair) (old new : List ℕ) (now : Ids) → take k old ≡ p.held → room - k ≡ p.spare → 1 ≤ p.spare → IsOnceEach (take k old) → (Contains p.held id → ⊥) → IsPermutation (take k old ++ id ∷ []) (take (k + 1) new) → IsHeap a (take (k + 1) new) → ((k + 1 ≤ room) × IsOnceEach (take (k + 1) new) → IsPairHeap now) → (pair_of now).held ≡ take (k + 1) new → IsPutIn a id p now
@@ -43,9 +43,9 @@ put_in a id k room p old new now held spare some once fresh moved heap sound is 
 
 pub taken_out : (a : Arena) (id k room : ℕ) (p : Pair) (old new : List ℕ) (now : Ids) → take k old ≡ p.held → k ≤ room → IsOnceEach (take k old) → IsPermutation (take k old) (id ∷ take (k - 1) new) → IsHeap a (take (k - 1) new) → ((k - 1 ≤ room) × IsOnceEach (take (k - 1) new) → IsPairHeap now) → (pair_of now).held ≡ take (k - 1) new → IsTakenOut a id p now
 taken_out a id k room p old new now held inside once moved heap sound is =
-    let one_less : IsWithout id (take k old) (take (k - 1) new) = without_moved id (take k old) (take (k - 1) new) moved once in
+    let one_less : IsAllBut id (take k old) (take (k - 1) new) = without_moved id (take k old) (take (k - 1) new) moved once in
     record {
       sound = sound (omega arith, one_less.once);
-      held = subst (λ (xs : List ℕ). IsWithout id p.held xs) (sym is) (subst (λ (xs : List ℕ). IsWithout id xs (take (k - 1) new)) held one_less);
+      held = subst (λ (xs : List ℕ). IsAllBut id p.held xs) (sym is) (subst (λ (xs : List ℕ). IsAllBut id xs (take (k - 1) new)) held one_less);
       heap = subst (λ (xs : List ℕ). IsHeap a xs) (sym is) heap;
     }

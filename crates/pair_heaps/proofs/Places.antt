@@ -7,7 +7,7 @@ use Rattle.std.proofs.lemmas.Nat.{mul-add-lt}
 use Rattle.std.proofs.lemmas.List.{get_or-set_same, get_or-set_other, get_or_past, get_or_default, length-set, set-get_or}
 use Rattle.apsp_model.proofs.Lists.{first_in, last_in}
 use Rattle.path_arena.specs.Arena.{Arena, Path, IsArena, IsLive, path_at, list_of, no_path}
-use Rattle.pair_heaps.specs.Heaps.{Pair, Heaps, no_pair, place_of, pair_at, held_at, HasEnds, ChangesOnly, IsWith, IsWithout, IsReserved, IsInserted, IsRemoved}
+use Rattle.pair_heaps.specs.Heaps.{Pair, Heaps, no_pair, place_of, pair_at, held_at, HasEnds, ChangesOnly, IsWith, IsAllBut, IsReserved, IsInserted, IsRemoved}
 use Rattle.pair_heaps.specs.Rows.{heaps_of, IsHeaps}
 
 -- ---- places
@@ -134,10 +134,10 @@ inserted h k id x y p q w held spare = record {
   spare = omega (arith, ap (λ r. r.spare) w.now, ap (λ r. r.spare) w.was);
 }
 
-pub removed : (h k : Heaps) (id x y : ℕ) (p q : Pair) → IsWritten h k x y p q → IsWithout id p.held q.held → p.spare ≤ q.spare → IsRemoved h k id x y
+pub removed : (h k : Heaps) (id x y : ℕ) (p q : Pair) → IsWritten h k x y p q → IsAllBut id p.held q.held → p.spare ≤ q.spare → IsRemoved h k id x y
 removed h k id x y p q w held spare = record {
   only = w.only;
-  held = subst (λ (r : Pair). IsWithout id r.held (held_at k x y)) (sym w.was) (subst (λ (r : Pair). IsWithout id p.held r.held) (sym w.now) held);
+  held = subst (λ (r : Pair). IsAllBut id r.held (held_at k x y)) (sym w.was) (subst (λ (r : Pair). IsAllBut id p.held r.held) (sym w.now) held);
   spare = omega (arith, ap (λ r. r.spare) w.now, ap (λ r. r.spare) w.was);
 }
 
@@ -151,31 +151,6 @@ at_ends a id x y P ends p u v other =
     let rows : x ≡ u = cc in
     let columns : y ≡ v = cc in
     subst (λ r. P r v) rows (subst (P x) columns p)
-
-pub on_ok : {A E P Q : Type 0} (r : Result A E) → (P → Q) → OnOk r P → OnOk r Q
-on_ok (Ok a) f p = f p
-on_ok (Err e) f p = p
-
-pub on_ok_both : {A E P Q S : Type 0} (r : Result A E) → (P → Q → S) → OnOk r P → OnOk r Q → OnOk r S
-on_ok_both (Ok a) f p q = f p q
-on_ok_both (Err e) f p q = p
-
-pub on_err : {A E P Q : Type 0} (r : Result A E) → (P → Q) → OnErr r P → OnErr r Q
-on_err (Ok a) f p = p
-on_err (Err e) f p = f p
-
--- a result of as good a success
-pub on_ok_as : {A B E F P Q : Type 0} (r : Result A E) (s : Result B F) → is_ok s ≡ is_ok r → (P → Q) → OnOk r P → OnOk s Q
-on_ok_as (Ok a) (Ok b) e f p = f p
-on_ok_as (Ok a) (Err b) e f p = absurd (false≢true e)
-on_ok_as (Err a) (Ok b) e f p = absurd (true≢false e)
-on_ok_as (Err a) (Err b) e f p = p
-
-pub on_err_as : {A B E F P Q : Type 0} (r : Result A E) (s : Result B F) → is_ok s ≡ is_ok r → (P → Q) → OnErr r P → OnErr s Q
-on_err_as (Ok a) (Ok b) e f p = p
-on_err_as (Ok a) (Err b) e f p = absurd (false≢true e)
-on_err_as (Err a) (Ok b) e f p = absurd (true≢false e)
-on_err_as (Err a) (Err b) e f p = f p
 
 -- what a success says, where another result is as good
 pub from_ok : {A B E F P : Type 0} (r : Result A E) (s : Result B F) (b : B) → s ≡ Ok b → is_ok s ≡ is_ok r → OnOk r P → P

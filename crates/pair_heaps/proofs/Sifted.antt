@@ -13,7 +13,7 @@ use Rattle.path_arena.specs.Arena.{Arena, IsLive, id_cmp}
 use Rattle.std.specs.Prelude.{[], ◌∷◌, ◌++◌}
 use Rattle.std.proofs.lemmas.List.{get_or_append_left, length_push, get_or-take, length-take-le, get_or_default}
 use Rattle.std.proofs.lemmas.List.Elements.{Contains-push_cases, Contains-append_right}
-use Rattle.pair_heaps.specs.Heaps.{IsBelow, IsHeap, Heaps, IsLeastHeld, held_at}
+use Rattle.pair_heaps.specs.Heaps.{IsIdBelow, IsHeap, Heaps, IsLeastHeld, held_at}
 use Rattle.pair_heaps.specs.Sifting.{IsChild, IsUpon, IsBridged, IsRising, IsSinking, IsLoose, AreLive}
 use Rattle.pair_heaps.proofs.Orders.{not_below_itself, below_chain, not_below_from}
 
@@ -41,14 +41,14 @@ pub upon_heap : (a : Arena) (xs : List ℕ) → IsHeap a xs → AreUpon a xs
 upon_heap a xs heap i p of inside =
     let some : 0 < i = (let past : p < i = later i p of in omega arith) in
     let same : (i - 1) / 2 ≡ p = same_parent i ((i - 1) / 2) p (parent_child i some) of in
-    subst (λ n. IsBelow a (get_or xs i 0) (get_or xs n 0) → ⊥) same (heap i some inside)
+    subst (λ n. IsIdBelow a (get_or xs i 0) (get_or xs n 0) → ⊥) same (heap i some inside)
 
 -- with other entries at the two places
 upon_as : (a : Arena) (xs ys : List ℕ) (i p j q : ℕ) → get_or ys i 0 ≡ get_or xs j 0 → get_or ys p 0 ≡ get_or xs q 0 → IsUpon a xs j q → IsUpon a ys i p
-upon_as a xs ys i p j q same_i same_p upon = subst (λ y. IsBelow a y (get_or ys p 0) → ⊥) (sym same_i) (subst (λ y. IsBelow a (get_or xs j 0) y → ⊥) (sym same_p) upon)
+upon_as a xs ys i p j q same_i same_p upon = subst (λ y. IsIdBelow a y (get_or ys p 0) → ⊥) (sym same_i) (subst (λ y. IsIdBelow a (get_or xs j 0) y → ⊥) (sym same_p) upon)
 
 -- an entry that is below its parent
-module _ (a : Arena) (xs : List ℕ) (up hole : ℕ) (child : IsChild hole up) (inside : hole < length xs) (below : IsBelow a (get_or xs hole 0) (get_or xs up 0)) where
+module _ (a : Arena) (xs : List ℕ) (up hole : ℕ) (child : IsChild hole up) (inside : hole < length xs) (below : IsIdBelow a (get_or xs hole 0) (get_or xs up 0)) where
   swapped : Swapped (λ n. get_or xs n 0) (λ n. get_or (swap xs up hole) n 0) up hole
   swapped = swapped_from_swap xs (swap xs up hole) up hole 0 (omega (arith, later hole up child)) inside refl
 
@@ -149,18 +149,18 @@ sunk_done a xs c hole upon lesser s = heap_upon a xs (λ i p of i_in. elim (case
 
 -- ---- parents and children
 
-pub lesser_right : (a : Arena) (xs : List ℕ) (at : ℕ) → IsBelow a (get_or xs (2 * at + 1 + 1) 0) (get_or xs (2 * at + 1) 0) → (i : ℕ) → IsChild i at → i < length xs → IsUpon a xs i (2 * at + 1 + 1)
+pub lesser_right : (a : Arena) (xs : List ℕ) (at : ℕ) → IsIdBelow a (get_or xs (2 * at + 1 + 1) 0) (get_or xs (2 * at + 1) 0) → (i : ℕ) → IsChild i at → i < length xs → IsUpon a xs i (2 * at + 1 + 1)
 lesser_right a xs at below i (inl e) inside h =
-    not_below_itself a (get_or xs (2 * at + 1) 0) (below_chain a (get_or xs (2 * at + 1) 0) (get_or xs (2 * at + 1 + 1) 0) (get_or xs (2 * at + 1) 0) (subst (λ n. IsBelow a (get_or xs n 0) (get_or xs (2 * at + 1 + 1) 0)) e h) below)
+    not_below_itself a (get_or xs (2 * at + 1) 0) (below_chain a (get_or xs (2 * at + 1) 0) (get_or xs (2 * at + 1 + 1) 0) (get_or xs (2 * at + 1) 0) (subst (λ n. IsIdBelow a (get_or xs n 0) (get_or xs (2 * at + 1 + 1) 0)) e h) below)
 lesser_right a xs at below i (inr e) inside h =
     let same : i ≡ 2 * at + 1 + 1 = omega arith in
-    not_below_itself a (get_or xs (2 * at + 1 + 1) 0) (subst (λ n. IsBelow a (get_or xs n 0) (get_or xs (2 * at + 1 + 1) 0)) same h)
+    not_below_itself a (get_or xs (2 * at + 1 + 1) 0) (subst (λ n. IsIdBelow a (get_or xs n 0) (get_or xs (2 * at + 1 + 1) 0)) same h)
 
 pub lesser_left : (a : Arena) (xs : List ℕ) (at : ℕ) → (2 * at + 1 + 1 < length xs → IsUpon a xs (2 * at + 1 + 1) (2 * at + 1)) → (i : ℕ) → IsChild i at → i < length xs → IsUpon a xs i (2 * at + 1)
-lesser_left a xs at upon i (inl e) inside h = not_below_itself a (get_or xs (2 * at + 1) 0) (subst (λ n. IsBelow a (get_or xs n 0) (get_or xs (2 * at + 1) 0)) e h)
+lesser_left a xs at upon i (inl e) inside h = not_below_itself a (get_or xs (2 * at + 1) 0) (subst (λ n. IsIdBelow a (get_or xs n 0) (get_or xs (2 * at + 1) 0)) e h)
 lesser_left a xs at upon i (inr e) inside h =
     let same : i ≡ 2 * at + 1 + 1 = omega arith in
-    upon (omega arith) (subst (λ n. IsBelow a (get_or xs n 0) (get_or xs (2 * at + 1) 0)) same h)
+    upon (omega arith) (subst (λ n. IsIdBelow a (get_or xs n 0) (get_or xs (2 * at + 1) 0)) same h)
 
 pub child_right : (at : ℕ) → IsChild (2 * at + 1 + 1) at
 child_right at = inr (omega arith)
@@ -173,12 +173,12 @@ still_live a xs ys moved live q c = live q (Contains-permutation ys xs q (IsPerm
 
 -- ---- an entry that was put in the place of another, and one behind all others
 
-pub loose_rises : (a : Arena) (xs : List ℕ) (up at : ℕ) → IsChild at up → IsBelow a (get_or xs at 0) (get_or xs up 0) → IsLoose a xs at → IsRising a xs at
+pub loose_rises : (a : Arena) (xs : List ℕ) (up at : ℕ) → IsChild at up → IsIdBelow a (get_or xs at 0) (get_or xs up 0) → IsLoose a xs at → IsRising a xs at
 loose_rises a xs up at child below loose = (
   λ i p of i_in apart. elim (cases_eq p at) [
     | inl here ↦ λ h.
         let i_of : IsChild i at = subst (λ n. IsChild i n) here of in
-        loose.1 i up i_of child i_in (below_chain a (get_or xs i 0) (get_or xs at 0) (get_or xs up 0) (subst (λ n. IsBelow a (get_or xs i 0) (get_or xs n 0)) here h) below)
+        loose.1 i up i_of child i_in (below_chain a (get_or xs i 0) (get_or xs at 0) (get_or xs up 0) (subst (λ n. IsIdBelow a (get_or xs i 0) (get_or xs n 0)) here h) below)
     | inr other ↦ loose.0 i p of i_in apart other
   ],
   loose.1,
@@ -260,9 +260,9 @@ pulled_live a xs ys x moved live q c = live q (Contains-permutation (x ∷ ys) x
 -- ---- the first entry
 
 pub above_first : (a : Arena) (xs : List ℕ) → IsHeap a xs → (n i : ℕ) → i ≤ n → i < length xs → IsUpon a xs i 0
-above_first a xs heap zero i upto inside = λ h. let first : i ≡ 0 = omega arith in not_below_itself a (get_or xs 0 0) (subst (λ n. IsBelow a (get_or xs n 0) (get_or xs 0 0)) first h)
+above_first a xs heap zero i upto inside = λ h. let first : i ≡ 0 = omega arith in not_below_itself a (get_or xs 0 0) (subst (λ n. IsIdBelow a (get_or xs n 0) (get_or xs 0 0)) first h)
 above_first a xs heap (suc n) i upto inside = elim (cases_eq i 0) [
-  | inl first ↦ λ h. not_below_itself a (get_or xs 0 0) (subst (λ n. IsBelow a (get_or xs n 0) (get_or xs 0 0)) first h)
+  | inl first ↦ λ h. not_below_itself a (get_or xs 0 0) (subst (λ n. IsIdBelow a (get_or xs n 0) (get_or xs 0 0)) first h)
   | inr more ↦
       let some : 0 < i = omega arith in
       let child : IsChild i ((i - 1) / 2) = parent_child i some in
@@ -270,13 +270,13 @@ above_first a xs heap (suc n) i upto inside = elim (cases_eq i 0) [
       not_below_from a (get_or xs i 0) (get_or xs ((i - 1) / 2) 0) (get_or xs 0 0) (heap i some inside) (above_first a xs heap n ((i - 1) / 2) (omega arith) (omega arith))
 ]
 
-pub heap_least : (xs : List ℕ) (o : Option ℕ) → o ≡ slice_get xs 0 → IfSome o (λ id. (a : Arena) → IsHeap a xs → (q : ℕ) → Contains xs q → IsBelow a q id → ⊥)
+pub heap_least : (xs : List ℕ) (o : Option ℕ) → o ≡ slice_get xs 0 → IfSome o (λ id. (a : Arena) → IsHeap a xs → (q : ℕ) → Contains xs q → IsIdBelow a q id → ⊥)
 heap_least xs None is = tt
 heap_least xs (Some id) is = λ a heap q c below.
     let inside : 0 < length xs = slice_get_within xs 0 id (sym is) in
     let first : get_or xs 0 0 ≡ id = get_or_from_slice_get xs 0 id 0 (sym is) in
     let at : get_or xs c.0 0 ≡ q = get_or_default xs c.0 0 q c.1 ∙ c.2 in
-    above_first a xs heap c.0 c.0 (omega arith) c.1 (subst (λ y. IsBelow a (get_or xs c.0 0) y) (sym first) (subst (λ y. IsBelow a y id) (sym at) below))
+    above_first a xs heap c.0 c.0 (omega arith) c.1 (subst (λ y. IsIdBelow a (get_or xs c.0 0) y) (sym first) (subst (λ y. IsIdBelow a y id) (sym at) below))
 
 pub heap_holds : (xs : List ℕ) (o : Option ℕ) → o ≡ slice_get xs 0 → IfSome o (Contains xs)
 heap_holds xs None is = tt

@@ -6,7 +6,7 @@ use Rattle.std.proofs.lemmas.Bool.Decides.{eqb_tells}
 use Rattle.std.proofs.lemmas.List.{get_or_default}
 use Rattle.std.proofs.lemmas.List.Elements.{Contains-get_or}
 use Rattle.path_arena.specs.Arena.{Arena}
-use Rattle.pair_heaps.specs.Heaps.{Pair, Heaps, held_at, Fits, IsHeap, IsBelow, IsWith, IsWithout, IsLeastIn, TellsLeast}
+use Rattle.pair_heaps.specs.Heaps.{Pair, Heaps, held_at, HeapsFit, IsHeap, IsIdBelow, IsWith, IsAllBut, IsLeastIn, TellsLeast}
 use Rattle.pair_heaps.proofs.Places.{IsWritten}
 use Rattle.pair_heaps.proofs.Sifted.{above_first}
 
@@ -20,7 +20,7 @@ some_held ids q c = let inside : c.0 < length ids = c.1 in omega arith
 first_least : (a : Arena) (h : Heaps) (x y : ℕ) → IsHeap a (held_at h x y) → 0 < length (held_at h x y) → IsLeastIn a h x y (first_of (held_at h x y))
 first_least a h x y heap some = record {
   held = Contains-get_or (held_at h x y) 0 0 some;
-  least = λ q c below. above_first a (held_at h x y) heap c.0 c.0 (omega arith) c.1 (subst (λ p. IsBelow a p (first_of (held_at h x y))) (sym (get_or_default (held_at h x y) c.0 0 q c.1 ∙ c.2)) below);
+  least = λ q c below. above_first a (held_at h x y) heap c.0 c.0 (omega arith) c.1 (subst (λ p. IsIdBelow a p (first_of (held_at h x y))) (sym (get_or_default (held_at h x y) c.0 0 q c.1 ∙ c.2)) below);
 }
 
 -- the entries but this one
@@ -56,7 +56,7 @@ told_least a told h k id x y heap c is without = record {
       | inr other ↦ other.1
     ]
 
-pub told_of_removed : (a : Arena) (b : Bool) (h k : Heaps) (id x y : ℕ) (p q : Pair) → IsWritten h k x y p q → Fits h a → b ≡ (get_or p.held 0 0 == id) → Contains p.held id → IsWithout id p.held q.held → TellsLeast a b h k id x y
+pub told_of_removed : (a : Arena) (b : Bool) (h k : Heaps) (id x y : ℕ) (p q : Pair) → IsWritten h k x y p q → HeapsFit h a → b ≡ (get_or p.held 0 0 == id) → Contains p.held id → IsAllBut id p.held q.held → TellsLeast a b h k id x y
 told_of_removed a b h k id x y p q w fits is c without =
     told_least a b h k id x y (fits.arranged x y) (subst (λ (r : Pair). Contains r.held id) (sym w.was) c)
     (subst (λ (r : Pair). b ≡ (get_or r.held 0 0 == id)) (sym w.was) is)

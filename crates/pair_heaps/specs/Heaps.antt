@@ -3,7 +3,7 @@ use Rattle.std.specs.Prelude.{◌≡◌, ◌≢◌, ℕ, ◌+◌, ◌-◌, ◌*�
 use Rattle.std.specs.Coded.{Coded, code_by, coded×, coded_ℕ, coded_list}
 use Rattle.std.specs.declared.cmp.Ordering.TheVariants.{Less}
 use Rattle.apsp_model.specs.Walk.{IsOnceEach, first, last}
-use Rattle.path_arena.specs.Arena.{Arena, IsLive, list_of, weight_of, id_cmp}
+use Rattle.path_arena.specs.Arena.{Arena, IsLive, list_of, weight_of_id, id_cmp}
 
 -- the held ids of a pair, and how many more find room
 pub record Pair : Type 0 where
@@ -44,12 +44,12 @@ spare_at h x y = (pair_at h x y).spare
 abbrev pub IsHeld : Heaps → ℕ → Type 0
 IsHeld h id = (x : ℕ) × (y : ℕ) × Contains (held_at h x y) id
 
-abbrev pub IsBelow : Arena → ℕ → ℕ → Type 0
-IsBelow a p q = id_cmp a p q ≡ Less
+abbrev pub IsIdBelow : Arena → ℕ → ℕ → Type 0
+IsIdBelow a p q = id_cmp a p q ≡ Less
 
 -- no entry at a place i above 0 is below the one at the place (i - 1) div 2
 abbrev pub IsHeap : Arena → List ℕ → Type 0
-IsHeap a ids = (i : ℕ) → 0 < i → i < length ids → IsBelow a (slice_index ids i) (slice_index ids ((i - 1) / 2)) → ⊥
+IsHeap a ids = (i : ℕ) → 0 < i → i < length ids → IsIdBelow a (slice_index ids i) (slice_index ids ((i - 1) / 2)) → ⊥
 
 -- x and y are the ends of the path of an id
 abbrev pub HasEnds : Arena → ℕ → ℕ → ℕ → Type 0
@@ -57,18 +57,18 @@ HasEnds a id x y = (first (list_of a id) ≡ Some x) × (last (list_of a id) ≡
 
 -- the heaps fit the arena: it has as many vertices, each held id is live in it and has there the ends
 -- of its pair, and the ids of each pair stand as a binary heap
-pub record Fits (h : Heaps) (a : Arena) : Type 0 where
+pub record HeapsFit (h : Heaps) (a : Arena) : Type 0 where
   pub vertices : a.vertices ≡ h.vertices
   pub live : (x y id : ℕ) → Contains (held_at h x y) id → IsLive a id
   pub ends : (x y id : ℕ) → Contains (held_at h x y) id → HasEnds a id x y
   pub arranged : (x y : ℕ) → IsHeap a (held_at h x y)
 
 -- the two arenas have as many vertices, and the same live path with the same weight under each held id
-pub record AgreeOnHeld (h : Heaps) (a b : Arena) : Type 0 where
+pub record AgreeOnHeapIds (h : Heaps) (a b : Arena) : Type 0 where
   pub vertices : b.vertices ≡ a.vertices
   pub live : (id : ℕ) → IsHeld h id → IsLive b id
   pub lists : (id : ℕ) → IsHeld h id → list_of b id ≡ list_of a id
-  pub weights : (id : ℕ) → IsHeld h id → weight_of b id ≡ weight_of a id
+  pub weights : (id : ℕ) → IsHeld h id → weight_of_id b id ≡ weight_of_id a id
 
 -- only the pair from x to y is changed
 pub record ChangesOnly (old new : Heaps) (x y : ℕ) : Type 0 where
@@ -81,7 +81,7 @@ pub record IsWith (id : ℕ) (old new : List ℕ) : Type 0 where
   pub once : IsOnceEach new
 
 -- the ids but this one, each once, in any order
-pub record IsWithout (id : ℕ) (old new : List ℕ) : Type 0 where
+pub record IsAllBut (id : ℕ) (old new : List ℕ) : Type 0 where
   pub ids : (q : ℕ) → Contains new q ↔ (Contains old q × (q ≢ id))
   pub once : IsOnceEach new
 
@@ -98,18 +98,18 @@ pub record IsInserted (old new : Heaps) (id x y : ℕ) : Type 0 where
 
 pub record IsRemoved (old new : Heaps) (id x y : ℕ) : Type 0 where
   pub only : ChangesOnly old new x y
-  pub held : IsWithout id (held_at old x y) (held_at new x y)
+  pub held : IsAllBut id (held_at old x y) (held_at new x y)
   pub spare : spare_at old x y ≤ spare_at new x y
 
 -- held of the pair, and none of those is below it in any arena that fits
 pub record IsLeastHeld (h : Heaps) (x y id : ℕ) : Type 0 where
   pub held : Contains (held_at h x y) id
-  pub least : (a : Arena) → Fits h a → (q : ℕ) → Contains (held_at h x y) q → IsBelow a q id → ⊥
+  pub least : (a : Arena) → HeapsFit h a → (q : ℕ) → Contains (held_at h x y) q → IsIdBelow a q id → ⊥
 
 -- held of the pair, and in this arena none of those is below it
 pub record IsLeastIn (a : Arena) (h : Heaps) (x y id : ℕ) : Type 0 where
   pub held : Contains (held_at h x y) id
-  pub least : (q : ℕ) → Contains (held_at h x y) q → IsBelow a q id → ⊥
+  pub least : (q : ℕ) → Contains (held_at h x y) q → IsIdBelow a q id → ⊥
 
 -- whether an id of the pair is the least in the heaps that hold it. Where it is not, the others, which
 -- differ in this id alone, have the same least one

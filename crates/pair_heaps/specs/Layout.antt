@@ -22,15 +22,15 @@ IsPairHeap (InBlock len front block) =
     (len ≤ 8) × IsOnceEach (take len block.value) × (front ≡ slice_index block.value 0) × (length block.value ≡ 8)
 IsPairHeap (Grown some front tall) = IsOnceEach tall.value.held × (slice_get tall.value.held 0 ≡ front_of some front)
 
-abbrev pub len_of : Ids → ℕ
-len_of (InPlace len few) = len
-len_of (InBlock len front block) = len
-len_of (Grown some front tall) = some
+abbrev pub id_count : Ids → ℕ
+id_count (InPlace len few) = len
+id_count (InBlock len front block) = len
+id_count (Grown some front tall) = some
 
-abbrev pub first_of : Ids → ℕ
-first_of (InPlace len few) = slice_index few 0
-first_of (InBlock len front block) = front
-first_of (Grown some front tall) = front
+abbrev pub front_id : Ids → ℕ
+front_id (InPlace len few) = slice_index few 0
+front_id (InBlock len front block) = front
+front_id (Grown some front tall) = front
 
 abbrev pub with_len : Ids → ℕ → Ids
 with_len (InPlace len few) to = InPlace to few

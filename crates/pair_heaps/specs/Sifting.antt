@@ -1,7 +1,7 @@
 -- Lists of ids that are heaps but for one entry. No public clause cites this module.
 use Rattle.std.specs.Prelude.{◌≡◌, ◌≢◌, ℕ, ◌+◌, ◌*◌, ◌<◌, ◌⊎◌, List, length, slice_index, Contains}
 use Rattle.path_arena.specs.Arena.{Arena, IsLive}
-use Rattle.pair_heaps.specs.Heaps.{IsBelow}
+use Rattle.pair_heaps.specs.Heaps.{IsIdBelow}
 
 -- the place p is (i - 1) div 2
 abbrev pub IsChild : ℕ → ℕ → Type 0
@@ -9,7 +9,7 @@ IsChild i p = (i ≡ 2 * p + 1) ⊎ (i ≡ 2 * p + 2)
 
 -- the entry at i is not below that at p
 abbrev pub IsUpon : Arena → List ℕ → ℕ → ℕ → Type 0
-IsUpon a xs i p = IsBelow a (slice_index xs i) (slice_index xs p) → ⊥
+IsUpon a xs i p = IsIdBelow a (slice_index xs i) (slice_index xs p) → ⊥
 
 -- the children of an entry are not below its parent
 abbrev pub IsBridged : Arena → List ℕ → ℕ → Type 0

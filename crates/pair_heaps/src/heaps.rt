@@ -1,9 +1,10 @@
 //! The heaps of all pairs.
 
-ghost use Rattle.std.specs.Prelude.{◌≡◌, ℕ, ◌<◌, ◌↔◌, [], length, OnOk, OnErr, IfOk, IfSome, IsNone};
+ghost use Rattle.std.specs.Prelude.{◌≡◌, ℕ, ◌<◌, ◌≤◌, ◌↔◌, [], length, OnOk, OnErr, IfOk, IfSome, IsNone};
 ghost use Rattle.apsp_model.specs.Walk.{IsOnceEach};
 ghost use Rattle.path_arena.specs.Arena.{Arena as Paths, IsLive};
-ghost use Rattle.pair_heaps.specs.Heaps.{Fits, HasEnds, IsHeap, IsHeld, IsInserted, IsLeastHeld, IsRemoved, IsReserved, TellsLeast, held_at, place_of, spare_at};
+ghost use Rattle.pair_heaps.specs.Heaps.{HeapsFit, HasEnds, IsHeap, IsHeld, IsInserted, IsLeastHeld, IsRemoved, IsReserved, TellsLeast, held_at, place_of, spare_at};
+ghost use Rattle.pair_heaps.specs.Rooms.{IsRoomOf};
 
 use crate::pair::PairHeap;
 use apsp_model::Memory;
@@ -22,6 +23,15 @@ pub struct Heaps {
     n: u32,
     // The pair from x to y has the place x * n + y.
     pairs: Vec<PairHeap>,
+}
+
+/// Room for one more id of the pair from x to y.
+#[derive(Clone, Copy, Debug, PartialEq, Eq)]
+pub struct Room {
+    pub x: u32,
+    pub y: u32,
+    // The place of the pair.
+    place: usize,
 }
 
 impl Model for Heaps {
@@ -43,7 +53,7 @@ impl Heaps {
     pub fn new(alloc: Global, n: u32) -> Result<Heaps, Memory>
         ensures vertices { IfOk result (λ h. h.vertices ≡ n) }
         ensures empty { IfOk result (λ h. (x y : ℕ) → held_at h x y ≡ []) }
-        ensures fits { IfOk result (λ h. (a : Paths) → a.vertices ≡ n → Fits h a) }
+        ensures fits { IfOk result (λ h. (a : Paths) → a.vertices ≡ n → HeapsFit h a) }
     {
         let places = n as usize * n as usize;
         let mut pairs = Vec::with_capacity(alloc, places).map_err(|_| Memory)?;
@@ -59,23 +69,40 @@ impl Heaps {
         requires to { y < self.old.vertices }
         ensures ok { OnOk result (IsReserved self.old self.new x y) }
         ensures err { OnErr result (self.new ≡ self.old) }
-        ensures fits { (a : Paths) → Fits self.old a ↔ Fits self.new a }
+        ensures fits { (a : Paths) → HeapsFit self.old a ↔ HeapsFit self.new a }
+    {
+        let _ = self.reserve_room(x, y)?;
+        Ok(())
+    }
+
+    /// The same, and gives the room.
+    #[inline(always)]
+    pub fn reserve_room(&mut self, x: u32, y: u32) -> Result<Room, Memory>
+        requires from { x < self.old.vertices }
+        requires to { y < self.old.vertices }
+        ensures ok { OnOk result (IsReserved self.old self.new x y) }
+        ensures room { IfOk result (λ room. IsRoomOf self.new room x y) }
+        ensures kept { OnOk result (spare_at self.old x y ≤ spare_at self.new x y) }
+        ensures err { OnErr result (self.new ≡ self.old) }
+        ensures full { OnErr result (spare_at self.old x y ≡ 0) }
+        ensures fits { (a : Paths) → HeapsFit self.old a ↔ HeapsFit self.new a }
     {
         let place = self.place(x, y);
         let alloc = *self.pairs.allocator();
         let pair = &mut self.pairs[place];
-        pair.reserve(alloc)
+        pair.reserve(alloc)?;
+        Ok(Room { x, y, place })
     }
 
     /// Adds an id to its pair. Memory comes only where the pair has no room left, and changes nothing.
     pub fn insert(&mut self, arena: &Arena, id: PathId) -> Result<(), Memory>
-        requires fits { Fits self.old arena.now }
+        requires fits { HeapsFit self.old arena.now }
         requires live { IsLive arena.now id }
         requires fresh { IsHeld self.old id → ⊥ }
         ensures ok { OnOk result ((x y : ℕ) → HasEnds arena.now id x y → IsInserted self.old self.new id x y) }
         ensures err { OnErr result (self.new ≡ self.old) }
         ensures full { OnErr result ((x y : ℕ) → HasEnds arena.now id x y → spare_at self.old x y ≡ 0) }
-        ensures fits { Fits self.new arena.now }
+        ensures fits { HeapsFit self.new arena.now }
     {
         let (x, y) = (arena.first(id), arena.last(id));
         let _ = self.insert_between(arena, id, x, y)?;
@@ -84,9 +111,6 @@ impl Heaps {
 
     /// Adds an id to its pair, from x to y, and says whether it is the least of the pair now. Memory
     /// comes only where the pair has no room left, and changes nothing.
-    ///
-    /// Compares as many paths as the logarithm of the number of ids of the pair.
-    #[inline(always)]
     pub fn insert_between(
         &mut self,
         arena: &Arena,
@@ -96,7 +120,7 @@ impl Heaps {
     ) -> Result<bool, Memory>
         requires from { x < self.old.vertices }
         requires to { y < self.old.vertices }
-        requires fits { Fits self.old arena.now }
+        requires fits { HeapsFit self.old arena.now }
         requires live { IsLive arena.now id }
         requires ends { HasEnds arena.now id x y }
         requires fresh { IsHeld self.old id → ⊥ }
@@ -104,21 +128,38 @@ impl Heaps {
         ensures least { IfOk result (λ told. TellsLeast arena.now told self.new self.old id x y) }
         ensures err { OnErr result (self.new ≡ self.old) }
         ensures full { OnErr result (spare_at self.old x y ≡ 0) }
-        ensures fits { Fits self.new arena.now }
+        ensures fits { HeapsFit self.new arena.now }
     {
-        let place = self.place(x, y);
-        let alloc = *self.pairs.allocator();
-        let pair = &mut self.pairs[place];
-        pair.insert(alloc, arena, id)?;
-        Ok(pair.is_first(id))
+        let room = self.reserve_room(x, y)?;
+        Ok(self.insert_into(arena, id, room))
+    }
+
+    /// Adds an id to the pair that has the room, and says whether it is the least of the pair now.
+    ///
+    /// Compares as many paths as the logarithm of the number of ids of the pair.
+    #[inline(always)]
+    pub fn insert_into(&mut self, arena: &Arena, id: PathId, room: Room) -> bool
+        requires room { IsRoomOf self.old room room.x room.y }
+        requires spare { 1 ≤ spare_at self.old room.x room.y }
+        requires fits { HeapsFit self.old arena.now }
+        requires live { IsLive arena.now id }
+        requires ends { HasEnds arena.now id room.x room.y }
+        requires fresh { IsHeld self.old id → ⊥ }
+        ensures ok { IsInserted self.old self.new id room.x room.y }
+        ensures least { TellsLeast arena.now result self.new self.old id room.x room.y }
+        ensures fits { HeapsFit self.new arena.now }
+    {
+        let pair = &mut self.pairs[room.place];
+        pair.put(arena, id);
+        pair.is_first(id)
     }
 
     /// Takes a held id out of its pair.
     pub fn remove(&mut self, arena: &Arena, id: PathId)
-        requires fits { Fits self.old arena.now }
+        requires fits { HeapsFit self.old arena.now }
         requires held { IsHeld self.old id }
         ensures removed { (x y : ℕ) → HasEnds arena.now id x y → IsRemoved self.old self.new id x y }
-        ensures fits { Fits self.new arena.now }
+        ensures fits { HeapsFit self.new arena.now }
     {
         let (x, y) = (arena.first(id), arena.last(id));
         let _ = self.remove_between(arena, id, x, y);
@@ -131,12 +172,12 @@ impl Heaps {
     pub fn remove_between(&mut self, arena: &Arena, id: PathId, x: u32, y: u32) -> bool
         requires from { x < self.old.vertices }
         requires to { y < self.old.vertices }
-        requires fits { Fits self.old arena.now }
+        requires fits { HeapsFit self.old arena.now }
         requires ends { HasEnds arena.now id x y }
         requires held { IsHeld self.old id }
         ensures removed { IsRemoved self.old self.new id x y }
         ensures least { TellsLeast arena.now result self.old self.new id x y }
-        ensures fits { Fits self.new arena.now }
+        ensures fits { HeapsFit self.new arena.now }
     {
         let place = self.place(x, y);
         let pair = &mut self.pairs[place];
@@ -164,7 +205,7 @@ impl Heaps {
         requires to { y < self.now.vertices }
         ensures held { result.now ≡ held_at self.now x y }
         ensures once { IsOnceEach result.now }
-        ensures heap { (a : Paths) → Fits self.now a → IsHeap a result.now }
+        ensures heap { (a : Paths) → HeapsFit self.now a → IsHeap a result.now }
     {
         let pair = &self.pairs[self.place(x, y)];
         pair.held()

@@ -10,4 +10,4 @@ mod tall;
 #[cfg(test)]
 mod tests;
 
-pub use heaps::Heaps;
+pub use heaps::{Heaps, Room};

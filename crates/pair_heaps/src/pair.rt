@@ -4,8 +4,8 @@ ghost use Rattle.std.specs.List.Sorted.{IsPermutation};
 ghost use Rattle.std.specs.Prelude.{◌≡◌, ℕ, ◌+◌, ◌-◌, ◌<◌, ◌≤◌, ◌⊎◌, ◌==◌, [], ◌∷◌, ◌++◌, length, slice_get, slice_index, take, Contains, OnOk, OnErr, IfOk, IsTrue, ◌↔◌};
 ghost use Rattle.apsp_model.specs.Walk.{IsOnceEach};
 ghost use Rattle.path_arena.specs.Arena.{IsLive};
-ghost use Rattle.pair_heaps.specs.Heaps.{IsHeap, IsWith, IsWithout, no_pair};
-ghost use Rattle.pair_heaps.specs.Layout.{IsPairHeap, first_of, front_of, len_of, pair_of, with_len};
+ghost use Rattle.pair_heaps.specs.Heaps.{IsHeap, IsWith, IsAllBut, no_pair};
+ghost use Rattle.pair_heaps.specs.Layout.{IsPairHeap, front_id, front_of, id_count, pair_of, with_len};
 ghost use Rattle.pair_heaps.specs.Sifting.{AreLive};
 
 use crate::entries;
@@ -138,28 +138,9 @@ impl PairHeap {
         Ok(())
     }
 
-    /// Puts in an id. Memory comes only where there is no room, and changes nothing.
-    #[inline(always)]
-    pub(crate) fn insert(&mut self, alloc: Global, arena: &Arena, id: PathId) -> Result<(), Memory>
-        requires live { IsLive arena.now id }
-        requires all_live { AreLive arena.now self.old.held }
-        requires heap { IsHeap arena.now self.old.held }
-        requires fresh { Contains self.old.held id → ⊥ }
-        ensures ok { OnOk result (IsWith id self.old.held self.new.held) }
-        ensures spare { OnOk result (self.old.spare ≤ self.new.spare + 1) }
-        ensures err { OnErr result (self.new ≡ self.old) }
-        ensures full { OnErr result (self.old.spare ≡ 0) }
-        ensures only { (q : ℕ) → Contains self.new.held q → Contains self.old.held q ⊎ (q ≡ id) }
-        ensures heap { IsHeap arena.now self.new.held }
-    {
-        self.reserve(alloc)?;
-        self.put(arena, id);
-        Ok(())
-    }
-
     /// Puts in an id, for which there is room.
     #[inline(always)]
-    fn put(&mut self, arena: &Arena, id: PathId)
+    pub(crate) fn put(&mut self, arena: &Arena, id: PathId)
         requires room { 1 ≤ self.old.spare }
         requires live { IsLive arena.now id }
         requires all_live { AreLive arena.now self.old.held }
@@ -190,7 +171,7 @@ impl PairHeap {
         requires held { Contains self.old.held id }
         requires all_live { AreLive arena.now self.old.held }
         requires heap { IsHeap arena.now self.old.held }
-        ensures held { IsWithout id self.old.held self.new.held }
+        ensures held { IsAllBut id self.old.held self.new.held }
         ensures spare { self.old.spare ≤ self.new.spare }
         ensures heap { IsHeap arena.now self.new.held }
     {
@@ -286,7 +267,7 @@ impl Ids {
     /// The number of ids in place or in a block, and of a tall heap 0 where it is empty.
     #[inline(always)]
     fn len(&self) -> u8
-        ensures { result ≡ len_of self.now }
+        ensures { result ≡ id_count self.now }
     {
         let (len, _) = self.front();
         len
@@ -296,8 +277,8 @@ impl Ids {
     #[tactic(auto, using(crate::proofs::Pairs::front_read))]
     #[inline(always)]
     fn front(&self) -> (u8, PathId)
-        ensures len { result.0 ≡ len_of self.now }
-        ensures first { result.1 ≡ first_of self.now }
+        ensures len { result.0 ≡ id_count self.now }
+        ensures first { result.1 ≡ front_id self.now }
         ensures noted { IsPairHeap self.now → slice_get (pair_of self.now).held 0 ≡ front_of result.0 result.1 }
     {
         match self {

@@ -2,7 +2,7 @@
 
 ghost use Rattle.std.specs.Prelude.{true, false, ◌≡◌, ℕ, ◌+◌, ◌*◌, ◌<◌, ◌≤◌, length, slice_index, MatchOption};
 ghost use Rattle.std.specs.List.Sorted.{IsPermutation};
-ghost use Rattle.pair_heaps.specs.Heaps.{IsBelow, IsHeap};
+ghost use Rattle.pair_heaps.specs.Heaps.{IsIdBelow, IsHeap};
 ghost use Rattle.pair_heaps.specs.Sifting.{AreLive, IsChild, IsLoose, IsRising, IsSinking, IsUpon};
 
 use path_arena::{Arena, PathId};
@@ -14,7 +14,7 @@ fn is_below(arena: &Arena, ids: &[PathId], one: usize, other: usize) -> bool
     requires live { AreLive arena.now ids.now }
     requires one_in { one < length ids.now }
     requires other_in { other < length ids.now }
-    ensures yes { result ≡ true → IsBelow arena.now (slice_index ids.now one) (slice_index ids.now other) }
+    ensures yes { result ≡ true → IsIdBelow arena.now (slice_index ids.now one) (slice_index ids.now other) }
     ensures no { result ≡ false → IsUpon arena.now ids.now one other }
 {
     arena.compare(ids[one], ids[other]) == Ordering::Less

@@ -3,7 +3,7 @@
 ghost use Rattle.std.specs.Prelude.{◌≡◌, ℕ, ◌+◌, ◌-◌, ◌<◌, ◌≤◌, length, slice_get, Contains, OnOk, OnErr, IfOk, IsTrue, ◌↔◌};
 ghost use Rattle.apsp_model.specs.Walk.{IsOnceEach};
 ghost use Rattle.path_arena.specs.Arena.{IsLive};
-ghost use Rattle.pair_heaps.specs.Heaps.{IsHeap, IsWith, IsWithout};
+ghost use Rattle.pair_heaps.specs.Heaps.{IsHeap, IsWith, IsAllBut};
 ghost use Rattle.pair_heaps.specs.Sifting.{AreLive};
 
 use crate::entries;
@@ -101,7 +101,7 @@ impl Tall {
         requires held { Contains self.old.held id }
         requires all_live { AreLive arena.now self.old.held }
         requires heap { IsHeap arena.now self.old.held }
-        ensures held { IsWithout id self.old.held self.new.held }
+        ensures held { IsAllBut id self.old.held self.new.held }
         ensures spare { self.old.spare ≤ self.new.spare }
         ensures heap { IsHeap arena.now self.new.held }
     {

@@ -2,7 +2,7 @@
 //! eleven, of which each is told whether it is the least.
 
 ghost use Rattle.std.specs.Prelude.{◌≡◌, OnOk};
-ghost use Rattle.pair_heaps.specs.Heaps.{Fits};
+ghost use Rattle.pair_heaps.specs.Heaps.{HeapsFit};
 
 use crate::Heaps;
 use apsp_model::Memory;
@@ -11,9 +11,9 @@ use std::test::Fail;
 
 /// One more path from 0 to 2.
 fn add(arena: &mut Arena, heaps: &mut Heaps, w: u32) -> Result<PathId, Memory>
-    requires fits { Fits heaps.old arena.old }
+    requires fits { HeapsFit heaps.old arena.old }
     requires three { arena.old.vertices ≡ 3 }
-    ensures fits { OnOk result (Fits heaps.new arena.new) }
+    ensures fits { OnOk result (HeapsFit heaps.new arena.new) }
     ensures three { OnOk result (arena.new.vertices ≡ 3) }
 {
     let id = arena.edge(0, 2, w, 1)?;
@@ -24,9 +24,9 @@ fn add(arena: &mut Arena, heaps: &mut Heaps, w: u32) -> Result<PathId, Memory>
 
 /// One more path from 0 to 2, and whether it is the least now.
 fn add_told(arena: &mut Arena, heaps: &mut Heaps, w: u32) -> Result<bool, Memory>
-    requires fits { Fits heaps.old arena.old }
+    requires fits { HeapsFit heaps.old arena.old }
     requires three { arena.old.vertices ≡ 3 }
-    ensures fits { OnOk result (Fits heaps.new arena.new) }
+    ensures fits { OnOk result (HeapsFit heaps.new arena.new) }
     ensures three { OnOk result (arena.new.vertices ≡ 3) }
 {
     let id = arena.edge(0, 2, w, 1)?;
@@ -36,9 +36,9 @@ fn add_told(arena: &mut Arena, heaps: &mut Heaps, w: u32) -> Result<bool, Memory
 
 /// The weight of the path at a place of the heap, which is taken out, and whether it was the least.
 fn take_told(arena: &Arena, heaps: &mut Heaps, place: usize) -> Option<(u64, bool)>
-    requires fits { Fits heaps.old arena.now }
+    requires fits { HeapsFit heaps.old arena.now }
     requires three { arena.now.vertices ≡ 3 }
-    ensures { Fits heaps.new arena.now }
+    ensures { HeapsFit heaps.new arena.now }
 {
     let id = *heaps.held(0, 2).get(place)?;
     let told = heaps.remove_between(arena, id, 0, 2);
@@ -47,9 +47,9 @@ fn take_told(arena: &Arena, heaps: &mut Heaps, place: usize) -> Option<(u64, boo
 
 /// The weight of the least path from 0 to 2, which is taken out.
 fn take_least(arena: &Arena, heaps: &mut Heaps) -> Option<u64>
-    requires fits { Fits heaps.old arena.now }
+    requires fits { HeapsFit heaps.old arena.now }
     requires three { arena.now.vertices ≡ 3 }
-    ensures { Fits heaps.new arena.now }
+    ensures { HeapsFit heaps.new arena.now }
 {
     let id = heaps.least(0, 2)?;
     heaps.remove(arena, id);
@@ -58,9 +58,9 @@ fn take_least(arena: &Arena, heaps: &mut Heaps) -> Option<u64>
 
 /// The weight of the path at a place of the heap, which is taken out.
 fn take_at(arena: &Arena, heaps: &mut Heaps, place: usize) -> Option<u64>
-    requires fits { Fits heaps.old arena.now }
+    requires fits { HeapsFit heaps.old arena.now }
     requires three { arena.now.vertices ≡ 3 }
-    ensures { Fits heaps.new arena.now }
+    ensures { HeapsFit heaps.new arena.now }
 {
     let id = *heaps.held(0, 2).get(place)?;
     heaps.remove(arena, id);
@@ -68,7 +68,7 @@ fn take_at(arena: &Arena, heaps: &mut Heaps, place: usize) -> Option<u64>
 }
 
 fn least_weight(arena: &Arena, heaps: &Heaps) -> Option<u64>
-    requires fits { Fits heaps.now arena.now }
+    requires fits { HeapsFit heaps.now arena.now }
     requires three { arena.now.vertices ≡ 3 }
 {
     let id = heaps.least(0, 2)?;
@@ -78,7 +78,7 @@ fn least_weight(arena: &Arena, heaps: &Heaps) -> Option<u64>
 /// Whether the least path has the least of these weights until none is left, where the paths are taken
 /// out from all places of the heap.
 fn agree(arena: &Arena, heaps: &mut Heaps, weights: &mut Vec<u64>) -> bool
-    requires fits { Fits heaps.old arena.now }
+    requires fits { HeapsFit heaps.old arena.now }
     requires three { arena.now.vertices ≡ 3 }
 {
     'emptying: for left in (1..41usize).rev() {
@@ -99,7 +99,7 @@ fn agree(arena: &Arena, heaps: &mut Heaps, weights: &mut Vec<u64>) -> bool
 /// Whether of each path that is taken out it is told that it was the least exactly where it has the
 /// least of these weights, until none is left.
 fn tells(arena: &Arena, heaps: &mut Heaps, weights: &mut Vec<u64>) -> bool
-    requires fits { Fits heaps.old arena.now }
+    requires fits { HeapsFit heaps.old arena.now }
     requires three { arena.now.vertices ≡ 3 }
 {
     // Places of the heap, first and others.
@@ -115,7 +115,7 @@ fn tells(arena: &Arena, heaps: &mut Heaps, weights: &mut Vec<u64>) -> bool
 
 /// Whether the least paths have these weights until none is left.
 fn comes_out(arena: &Arena, heaps: &mut Heaps, weights: &[u32]) -> bool
-    requires fits { Fits heaps.old arena.now }
+    requires fits { HeapsFit heaps.old arena.now }
     requires three { arena.now.vertices ≡ 3 }
 {
     'emptying: for w in weights {

@@ -7,8 +7,8 @@ use Rattle.std.proofs.Math.Seq.{get_or-append_seam}
 use Rattle.apsp_model.specs.declared.TheConstants.{MOST_VERTICES, MOST_WEIGHT}
 use Rattle.apsp_model.specs.Walk.{last}
 use Rattle.apsp_model.proofs.Members.{in_cons as contains_cons, in_nil as contains_nil}
-use Rattle.path_arena.specs.Arena.{Path, Arena, path_at, vertex_of, IsLive, path_of, weight_of, HasAnEdge, single, edge_path, overlap_of, joined_path, with_path, without_path, second, IsPartOfNone, CanJoin, IsPath, IsArena, IsOpening}
-use Rattle.path_arena.specs.Records.{slot_at, record_at, list_at, part_id, path_from, arena_in, view_of, IsRecordOf, IsKept, IsSound, IsPut, IsTaken, IsSingleRecord}
+use Rattle.path_arena.specs.Arena.{Path, Arena, path_at, vertex_of, IsLive, path_of, weight_of_id, HasAnEdge, single, edge_path, overlap_of, joined_path, with_path, without_path, second, IsPartOfNone, CanJoin, IsPath, IsArena, IsOpening}
+use Rattle.path_arena.specs.Records.{slot_at, record_at, list_under, part_id, path_from, arena_in, view_of, IsRecordOf, AreRecordsOfLists, IsSound, IsPut, IsTaken, IsSingleRecord}
 use Rattle.path_arena.specs.declared.arena.Record.{Record}
 use Rattle.path_arena.specs.declared.arena.Arena.TheInside.{Inside}
 use Rattle.path_arena.proofs.Paths.{live_from_edge, parted, Parted, Meeting, meeting}
@@ -17,7 +17,7 @@ use Rattle.path_arena.proofs.Puts.{AfterPut, after_edge, IsEdgeRecord, after_joi
 
 -- the arena m was changed by putting in p, or where there was no memory it stays
 pub record Added {E : Type 0} (singles : List ℕ) (new : List (Option Record)) (m : Arena) (p : Path) (o : Result ℕ E) : Type 0 where
-  pub kept : IsKept singles new
+  pub kept : AreRecordsOfLists singles new
   pub fresh : IfOk o (λ id. path_at m id ≡ None)
   pub added : IfOk o (λ id. arena_in singles new ≡ with_path m id p)
   pub memory : OnErr o (arena_in singles new ≡ m)
@@ -36,7 +36,7 @@ join_added a m e sound new l r birth q can is o ok same =
     subst F e (λ can is. from_put a.singles.items a.records.slots new (joined_path (view_of a) l r birth) o (after_join a.singles.items a.records.slots new sound l r birth q can is o ok same)) can is
 
 pub record Removed (singles : List ℕ) (new : List (Option Record)) (m : Arena) (id : ℕ) : Type 0 where
-  pub kept : IsKept singles new
+  pub kept : AreRecordsOfLists singles new
   pub removed : arena_in singles new ≡ without_path m id
 
 pub path_removed : (a : Inside) (m : Arena) → view_of a ≡ m → IsSound a → (new : List (Option Record)) (id : ℕ) → HasAnEdge m id → IsPartOfNone m id → IsTaken a.records.slots new id → Removed a.singles.items new m id
@@ -74,7 +74,7 @@ join_facts m l r birth h can left right overlap left_is right_is overlap_is = re
   weight_fits = (let wl = weight_most m l h (live_from_edge m l h can.left_live) in let wr = weight_most m r h (live_from_edge m r h can.right_live) in omega (arith, wl, wr, left_is.weight, right_is.weight));
   hops_fit = (let most = length_most m l h (live_from_edge m l h can.left_live) in omega (arith, most, left_is.hops));
   is = λ q e. subst (IsJoinRecord m l r (joined_path m l r birth).weight birth) (sym e) (record {
-    weight_is = (let total : left.weight + (right.weight - overlap.weight) ≡ weight_of m l + weight_of m r - weight_of m (overlap_of m l) = omega (arith, lighter, left_is.weight, right_is.weight, middle_weight) in total);
+    weight_is = (let total : left.weight + (right.weight - overlap.weight) ≡ weight_of_id m l + weight_of_id m r - weight_of_id m (overlap_of m l) = omega (arith, lighter, left_is.weight, right_is.weight, middle_weight) in total);
     birth_is = refl;
     first = left_is.first;
     second = left_is.second;
@@ -94,15 +94,15 @@ join_facts m l r birth h can left right overlap left_is right_is overlap_is = re
         let ids : p.parts.right ≡ met.middle = (let two : Some p.parts.right ≡ Some met.middle = sym (ap (λ q. q.right) p.of ∙ p.parts.right_is) ∙ met.middle_right in cc) in
         sym (right_of_record m l left left_is p) ∙ ids
 
-    middle_weight : weight_of m (overlap_of m l) ≡ overlap.weight
-    middle_weight = ap (weight_of m) (ap (λ o. unwrap_or o 0) met.middle_right ∙ sym middle) ∙ overlap_is.weight
+    middle_weight : weight_of_id m (overlap_of m l) ≡ overlap.weight
+    middle_weight = ap (weight_of_id m) (ap (λ o. unwrap_or o 0) met.middle_right ∙ sym middle) ∙ overlap_is.weight
 
     lighter : overlap.weight ≤ right.weight
     lighter =
         let p : Parted m r = met.right in
         let ids : p.parts.left ≡ met.middle = (let two : Some p.parts.left ≡ Some met.middle = sym (ap (λ q. q.left) p.of ∙ p.parts.left_is) ∙ met.middle_left in cc) in
-        let k : weight_of m p.parts.left ≤ p.path.weight = p.parts.left_lighter in
-        let same : weight_of m p.parts.left ≡ overlap.weight = ap (weight_of m) (ids ∙ sym middle) ∙ overlap_is.weight in
+        let k : weight_of_id m p.parts.left ≤ p.path.weight = p.parts.left_lighter in
+        let same : weight_of_id m p.parts.left ≡ overlap.weight = ap (weight_of_id m) (ids ∙ sym middle) ∙ overlap_is.weight in
         omega (arith, right_is.weight, ap (λ q. q.weight) p.of)
 
 -- ---- the opening
@@ -154,11 +154,11 @@ filled_more singles more old new v id r h is put longer = record {
 single_path : (slots : List (Option Record)) (key v : ℕ) (r : Record) → slot_at slots key ≡ Some r → IsSingleRecord v r → path_from slots key r ≡ single v
 single_path slots key v r there is =
     let here : (record_at slots key).first ≡ v = ap (λ q. q.first) (record_of_slot slots key r there) ∙ is.first in
-    let lists : list_at slots r.hops key ≡ v ∷ [] = ap (λ h. list_at slots h key) is.hops ∙ ap (λ x. x ∷ []) here in
+    let lists : list_under slots r.hops key ≡ v ∷ [] = ap (λ h. list_under slots h key) is.hops ∙ ap (λ x. x ∷ []) here in
     λ i. record { list = lists i; weight = is.weight i; birth = is.birth i; left = part_id (is.hops i) r.left; right = part_id (is.hops i) r.right }
 
 pub record Opened (singles : List ℕ) (slots : List (Option Record)) (n : ℕ) : Type 0 where
-  pub kept : IsKept singles slots
+  pub kept : AreRecordsOfLists singles slots
   pub opening : IsOpening (arena_in singles slots) n
 
 pub filled_all : (singles : List ℕ) (slots : List (Option Record)) (n : ℕ) → 1 ≤ n → n ≤ MOST_VERTICES → IsFilled singles slots n → Opened singles slots n

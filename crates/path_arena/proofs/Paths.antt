@@ -10,7 +10,7 @@ use Rattle.apsp_model.specs.Part.{left_part, right_part}
 use Rattle.apsp_model.proofs.Members.{in_cons as contains_cons, in_nil as contains_nil}
 use Rattle.apsp_model.proofs.Walks.{first_is, last_is}
 use Rattle.apsp_model.proofs.Joins.{IsOverlap, left-joined, right-joined, simple-joined}
-use Rattle.path_arena.specs.Arena.{Path, Arena, path_at, vertex_of, IsLive, no_path, path_of, list_of, weight_of, left_of, right_of, HasAnEdge, single, edge_path, overlap_of, joined_path, with_path, without_path, IsPartOfNone, CanJoin, HasParts, IsSingle, IsPath, IsArena}
+use Rattle.path_arena.specs.Arena.{Path, Arena, path_at, vertex_of, IsLive, no_path, path_of, list_of, weight_of_id, left_of, right_of, HasAnEdge, single, edge_path, overlap_of, joined_path, with_path, without_path, IsPartOfNone, CanJoin, HasParts, IsSingle, IsPath, IsArena}
 use Rattle.path_arena.proofs.Keys.{get_put, get_put_other, get_gone, get_gone_other}
 
 same_path : (p q : Path) → Some p ≡ Some q → p ≡ q
@@ -87,9 +87,9 @@ parts_kept a b p h l r =
       right_live = rw r h.right_live;
       left_list = ap (λ q. q.list) left ∙ h.left_list;
       right_list = ap (λ q. q.list) right ∙ h.right_list;
-      left_lighter = (let e : weight_of b h.left ≡ weight_of a h.left = ap (λ q. q.weight) left in let k : weight_of a h.left ≤ p.weight = h.left_lighter in omega arith);
-      right_lighter = (let e : weight_of b h.right ≡ weight_of a h.right = ap (λ q. q.weight) right in let k : weight_of a h.right ≤ p.weight = h.right_lighter in omega arith);
-      last_edge = (let e : weight_of b h.left ≡ weight_of a h.left = ap (λ q. q.weight) left in let k : p.weight ≤ weight_of a h.left + MOST_WEIGHT = h.last_edge in omega arith);
+      left_lighter = (let e : weight_of_id b h.left ≡ weight_of_id a h.left = ap (λ q. q.weight) left in let k : weight_of_id a h.left ≤ p.weight = h.left_lighter in omega arith);
+      right_lighter = (let e : weight_of_id b h.right ≡ weight_of_id a h.right = ap (λ q. q.weight) right in let k : weight_of_id a h.right ≤ p.weight = h.right_lighter in omega arith);
+      last_edge = (let e : weight_of_id b h.left ≡ weight_of_id a h.left = ap (λ q. q.weight) left in let k : p.weight ≤ weight_of_id a h.left + MOST_WEIGHT = h.last_edge in omega arith);
     }
 
 -- ---- one path more
@@ -178,8 +178,8 @@ IsPath-edge a id u v w birth h from to apart most = record {
     right_live = live_from a (vertex_of a v) (single v) at_v;
     left_list = ap (λ q. q.list) of_u;
     right_list = ap (λ q. q.list) of_v;
-    left_lighter = (let e : weight_of a (vertex_of a u) ≡ 0 = ap (λ q. q.weight) of_u in omega arith);
-    right_lighter = (let e : weight_of a (vertex_of a v) ≡ 0 = ap (λ q. q.weight) of_v in omega arith);
+    left_lighter = (let e : weight_of_id a (vertex_of a u) ≡ 0 = ap (λ q. q.weight) of_u in omega arith);
+    right_lighter = (let e : weight_of_id a (vertex_of a v) ≡ 0 = ap (λ q. q.weight) of_v in omega arith);
     last_edge = omega arith;
   });
 }
@@ -317,28 +317,28 @@ IsPath-joined a id l r birth h j = record {
     list_is = m.list birth
 
     -- the overlap weighs no more than either, and r weighs its last edge more
-    weights : (weight_of a (overlap_of a l) ≤ weight_of a l) × (weight_of a (overlap_of a l) ≤ weight_of a r) × (weight_of a r ≤ weight_of a (overlap_of a l) + MOST_WEIGHT)
+    weights : (weight_of_id a (overlap_of a l) ≤ weight_of_id a l) × (weight_of_id a (overlap_of a l) ≤ weight_of_id a r) × (weight_of_id a r ≤ weight_of_id a (overlap_of a l) + MOST_WEIGHT)
     weights =
         let in_left : m.left.parts.right ≡ m.middle = same_id _ _ (sym (ap (λ q. q.right) m.left.of ∙ m.left.parts.right_is) ∙ m.middle_right) in
         let in_right : m.right.parts.left ≡ m.middle = same_id _ _ (sym (ap (λ q. q.left) m.right.of ∙ m.right.parts.left_is) ∙ m.middle_left) in
         let overlap : overlap_of a l ≡ m.middle = ap (λ o. unwrap_or o 0) m.middle_right in
-        let wl : weight_of a l ≡ m.left.path.weight = ap (λ q. q.weight) m.left.of in
-        let wr : weight_of a r ≡ m.right.path.weight = ap (λ q. q.weight) m.right.of in
-        let wm : weight_of a (overlap_of a l) ≡ weight_of a m.middle = ap (weight_of a) overlap in
-        let wml : weight_of a m.left.parts.right ≡ weight_of a m.middle = ap (weight_of a) in_left in
-        let wmr : weight_of a m.right.parts.left ≡ weight_of a m.middle = ap (weight_of a) in_right in
-        let first : weight_of a m.left.parts.right ≤ m.left.path.weight = m.left.parts.right_lighter in
-        let second : weight_of a m.right.parts.left ≤ m.right.path.weight = m.right.parts.left_lighter in
-        let third : m.right.path.weight ≤ weight_of a m.right.parts.left + MOST_WEIGHT = m.right.parts.last_edge in
+        let wl : weight_of_id a l ≡ m.left.path.weight = ap (λ q. q.weight) m.left.of in
+        let wr : weight_of_id a r ≡ m.right.path.weight = ap (λ q. q.weight) m.right.of in
+        let wm : weight_of_id a (overlap_of a l) ≡ weight_of_id a m.middle = ap (weight_of_id a) overlap in
+        let wml : weight_of_id a m.left.parts.right ≡ weight_of_id a m.middle = ap (weight_of_id a) in_left in
+        let wmr : weight_of_id a m.right.parts.left ≡ weight_of_id a m.middle = ap (weight_of_id a) in_right in
+        let first : weight_of_id a m.left.parts.right ≤ m.left.path.weight = m.left.parts.right_lighter in
+        let second : weight_of_id a m.right.parts.left ≤ m.right.path.weight = m.right.parts.left_lighter in
+        let third : m.right.path.weight ≤ weight_of_id a m.right.parts.left + MOST_WEIGHT = m.right.parts.last_edge in
         (omega arith, omega arith, omega arith)
 
     fits : (joined_path a l r birth).weight ≤ hops_of (joined_path a l r birth).list * MOST_WEIGHT
     fits =
         let longer : hops_of (joined_path a l r birth).list ≡ hops_of (list_of a l) + 1 = omega (arith, ap length list_is, length-append (list_of a l) (to ∷ []), long_left) in
-        let before : weight_of a l ≤ hops_of (list_of a l) * MOST_WEIGHT =
+        let before : weight_of_id a l ≤ hops_of (list_of a l) * MOST_WEIGHT =
         (let k : m.left.path.weight ≤ hops_of m.left.path.list * MOST_WEIGHT = m.left.is.weight in
-        let F : List ℕ → Type 0 = λ p. weight_of a l ≤ hops_of p * MOST_WEIGHT in
-        subst F (sym list_l) (let wl : weight_of a l ≡ m.left.path.weight = ap (λ q. q.weight) m.left.of in omega arith)) in
+        let F : List ℕ → Type 0 = λ p. weight_of_id a l ≤ hops_of p * MOST_WEIGHT in
+        subst F (sym list_l) (let wl : weight_of_id a l ≡ m.left.path.weight = ap (λ q. q.weight) m.left.of in omega arith)) in
         let F : ℕ → Type 0 = λ k. (joined_path a l r birth).weight ≤ k * MOST_WEIGHT in
         subst F (sym longer) (omega (arith, before, weights.0, weights.1, weights.2))
 

@@ -8,29 +8,29 @@ use Rattle.apsp_model.specs.Part.{left_part, right_part}
 use Rattle.apsp_model.proofs.Lists.{last-push, first-append, left_and_last, length_right}
 use Rattle.apsp_model.proofs.Joins.{right-joined}
 use Rattle.apsp_model.proofs.Simples.{simple_is_short}
-use Rattle.path_arena.specs.Arena.{Path, Arena, path_at, vertex_of, IsLive, path_of, list_of, weight_of, single, edge_path, joined_path, with_path, second, CanJoin, IsPath, IsArena}
-use Rattle.path_arena.specs.Records.{slot_at, record_at, list_at, part_id, path_from, arena_in, IsRecordOf, IsKept, IsPut}
+use Rattle.path_arena.specs.Arena.{Path, Arena, path_at, vertex_of, IsLive, path_of, list_of, weight_of_id, single, edge_path, joined_path, with_path, second, CanJoin, IsPath, IsArena}
+use Rattle.path_arena.specs.Records.{slot_at, record_at, list_under, part_id, path_from, arena_in, IsRecordOf, AreRecordsOfLists, IsPut}
 use Rattle.path_arena.specs.declared.arena.Record.{Record}
 use Rattle.path_arena.proofs.Paths.{live_from, live_path, path_of_at, live_from_edge, Meeting, meeting, IsPath-edge, IsPath-joined}
 use Rattle.path_arena.proofs.Stores.{record_of_slot, slot_of_live, no_path_of_slot, path_of_slot, record_describes, path_from_old, arena_put, kept_put}
 
 pub record AfterPut {E : Type 0} (singles : List ℕ) (old new : List (Option Record)) (p : Path) (o : Result ℕ E) : Type 0 where
-  pub kept : IsKept singles new
+  pub kept : AreRecordsOfLists singles new
   pub fresh : IfOk o (λ id. path_at (arena_in singles old) id ≡ None)
   pub added : IfOk o (λ id. arena_in singles new ≡ with_path (arena_in singles old) id p)
   pub memory : OnErr o (arena_in singles new ≡ arena_in singles old)
 
-module _ (singles : List ℕ) (old new : List (Option Record)) (kept : IsKept singles old) where
+module _ (singles : List ℕ) (old new : List (Option Record)) (kept : AreRecordsOfLists singles old) where
   -- the new record's right part has a record, with one edge less, so its path begins with its first vertex and goes on with its right part
   pub path_from-put : (key : ℕ) (r s : Record) → IsPut old new key r → slot_at old r.right ≡ Some s → r.hops ≡ s.hops + 1 → path_from new key r ≡ record { list = r.first ∷ list_of (arena_in singles old) r.right; weight = r.weight; birth = r.birth; left = Some r.left; right = Some r.right }
   path_from-put key r s put there long =
       let one_more : r.hops ≡ suc s.hops = omega arith in
       let here : record_at new key ≡ r = record_of_slot new key r put.here in
-      let tail : list_at new s.hops r.right ≡ list_of (arena_in singles old) r.right =
+      let tail : list_under new s.hops r.right ≡ list_of (arena_in singles old) r.right =
       ap (λ p. p.list) (path_from_old singles old new key r kept put r.right s there)
       ∙ sym (ap (λ p. p.list) (path_of_at (arena_in singles old) r.right (path_from old r.right s) (path_of_slot singles old r.right s there))) in
-      let lists : list_at new r.hops key ≡ r.first ∷ list_of (arena_in singles old) r.right =
-      ap (λ h. list_at new h key) one_more ∙ ap (λ q. q.first ∷ list_at new s.hops q.right) here ∙ ap (λ l. r.first ∷ l) tail in
+      let lists : list_under new r.hops key ≡ r.first ∷ list_of (arena_in singles old) r.right =
+      ap (λ h. list_under new h key) one_more ∙ ap (λ q. q.first ∷ list_under new s.hops q.right) here ∙ ap (λ l. r.first ∷ l) tail in
       let lefts : part_id r.hops r.left ≡ Some r.left = ap (λ h. part_id h r.left) one_more in
       let rights : part_id r.hops r.right ≡ Some r.right = ap (λ h. part_id h r.right) one_more in
       λ i. record { list = lists i; weight = r.weight; birth = r.birth; left = lefts i; right = rights i }
@@ -43,7 +43,7 @@ module _ (singles : List ℕ) (old new : List (Option Record)) (kept : IsKept si
     memory = tt;
   }
   after_put r p (Err e) ok same begins ends path made = record {
-    kept = subst (λ s. IsKept singles s) (sym same) kept;
+    kept = subst (λ s. AreRecordsOfLists singles s) (sym same) kept;
     fresh = tt;
     added = tt;
     memory = ap (arena_in singles) same;
@@ -60,7 +60,7 @@ pub record IsEdgeRecord (a : Arena) (u v w birth : ℕ) (r : Record) : Type 0 wh
   pub left : r.left ≡ vertex_of a u
   pub right : r.right ≡ vertex_of a v
 
-pub after_edge : {E : Type 0} (singles : List ℕ) (old new : List (Option Record)) → IsKept singles old → (u v w birth : ℕ) (r : Record) → u < length singles → v < length singles → u ≢ v → w ≤ MOST_WEIGHT → IsEdgeRecord (arena_in singles old) u v w birth r → (o : Result ℕ E) → IfOk o (λ key. IsPut old new key r) → OnErr o (new ≡ old) → AfterPut singles old new (edge_path (arena_in singles old) u v w birth) o
+pub after_edge : {E : Type 0} (singles : List ℕ) (old new : List (Option Record)) → AreRecordsOfLists singles old → (u v w birth : ℕ) (r : Record) → u < length singles → v < length singles → u ≢ v → w ≤ MOST_WEIGHT → IsEdgeRecord (arena_in singles old) u v w birth r → (o : Result ℕ E) → IfOk o (λ key. IsPut old new key r) → OnErr o (new ≡ old) → AfterPut singles old new (edge_path (arena_in singles old) u v w birth) o
 after_edge singles old new kept u v w birth r from to apart most is o ok same =
     after_put singles old new kept r (edge_path a u v w birth) o ok same (ap Some (sym is.second)) (ap Some (sym is.last)) (λ id. IsPath-edge a id u v w birth kept.arena from to apart most) made
   where
@@ -97,12 +97,12 @@ length_most a id h live =
     let most : a.vertices ≤ MOST_VERTICES = h.most in
     omega arith
 
-pub weight_most : (a : Arena) (id : ℕ) → IsArena a → IsLive a id → weight_of a id ≤ MOST_VERTICES * MOST_WEIGHT
+pub weight_most : (a : Arena) (id : ℕ) → IsArena a → IsLive a id → weight_of_id a id ≤ MOST_VERTICES * MOST_WEIGHT
 weight_most a id h live =
     let p = live_path a id live in
     let is : IsPath a id p.0 = h.paths id p.0 p.1 in
     let short : length p.0.list ≤ a.vertices = simple_is_short a.vertices p.0.list is.simple is.inside in
-    let same : weight_of a id ≡ p.0.weight = ap (λ q. q.weight) (path_of_at a id p.0 p.1) in
+    let same : weight_of_id a id ≡ p.0.weight = ap (λ q. q.weight) (path_of_at a id p.0 p.1) in
     let most : a.vertices ≤ MOST_VERTICES = h.most in
     let k : p.0.weight ≤ hops_of p.0.list * MOST_WEIGHT = is.weight in
     omega arith
@@ -126,7 +126,7 @@ pub record IsJoinRecord (a : Arena) (l r weight birth : ℕ) (q : Record) : Type
   pub left : q.left ≡ l
   pub right : q.right ≡ r
 
-pub after_join : {E : Type 0} (singles : List ℕ) (old new : List (Option Record)) → IsKept singles old → (l r birth : ℕ) (q : Record) → CanJoin (arena_in singles old) l r → IsJoinRecord (arena_in singles old) l r (joined_path (arena_in singles old) l r birth).weight birth q → (o : Result ℕ E) → IfOk o (λ key. IsPut old new key q) → OnErr o (new ≡ old) → AfterPut singles old new (joined_path (arena_in singles old) l r birth) o
+pub after_join : {E : Type 0} (singles : List ℕ) (old new : List (Option Record)) → AreRecordsOfLists singles old → (l r birth : ℕ) (q : Record) → CanJoin (arena_in singles old) l r → IsJoinRecord (arena_in singles old) l r (joined_path (arena_in singles old) l r birth).weight birth q → (o : Result ℕ E) → IfOk o (λ key. IsPut old new key q) → OnErr o (new ≡ old) → AfterPut singles old new (joined_path (arena_in singles old) l r birth) o
 after_join singles old new kept l r birth q can is o ok same =
     after_put singles old new kept q (joined_path a l r birth) o ok same begins ends (λ id. IsPath-joined a id l r birth kept.arena can) made
   where

@@ -7,18 +7,18 @@ use Rattle.std.proofs.lemmas.Bool.{cases_eq, false≢true}
 use Rattle.apsp_model.specs.Walk.{first, last}
 use Rattle.apsp_model.specs.Part.{right_part}
 use Rattle.path_arena.specs.Arena.{Path, Arena, path_at, IsLive, path_of, list_of, right_of, second, HasAnEdge, with_path, without_path, IsPartOfNone, HasParts, IsSingle, IsPath, IsArena}
-use Rattle.path_arena.specs.Records.{no_record, slot_at, record_at, list_at, part_id, path_from, paths_in, arena_in, view_of, IsSound, IsRecordOf, IsKept, IsPut, IsTaken}
+use Rattle.path_arena.specs.Records.{no_record, slot_at, record_at, list_under, part_id, path_from, paths_in, arena_in, view_of, IsSound, IsRecordOf, AreRecordsOfLists, IsPut, IsTaken}
 use Rattle.path_arena.specs.declared.arena.Record.{Record}
 use Rattle.path_arena.specs.declared.arena.Arena.TheInside.{Inside}
 use Rattle.path_arena.proofs.Keys.{same_put, same_gone}
 use Rattle.path_arena.proofs.Slots.{get-paths_in}
 use Rattle.path_arena.proofs.Paths.{live_apart, live_from, path_of_at, IsArena-with, IsArena-without}
 
-pub length-list_at : (slots : List (Option Record)) (hops key : ℕ) → length (list_at slots hops key) ≡ hops + 1
+pub length-list_at : (slots : List (Option Record)) (hops key : ℕ) → length (list_under slots hops key) ≡ hops + 1
 length-list_at slots zero key = refl
 length-list_at slots (suc hops) key = let rest = length-list_at slots hops (record_at slots key).right in omega arith
 
-pub first-list_at : (slots : List (Option Record)) (hops key : ℕ) → first (list_at slots hops key) ≡ Some (record_at slots key).first
+pub first-list_at : (slots : List (Option Record)) (hops key : ℕ) → first (list_under slots hops key) ≡ Some (record_at slots key).first
 first-list_at slots zero key = refl
 first-list_at slots (suc hops) key = refl
 
@@ -44,7 +44,7 @@ module _ (singles : List ℕ) (slots : List (Option Record)) where
           absurd (false≢true (subst F (no_path_of_slot key e) live))
       go (Some r) e = (r, e)
 
-  pub record_describes : IsKept singles slots → (key : ℕ) (r : Record) → slot_at slots key ≡ Some r → IsRecordOf (path_of (arena_in singles slots) key) r
+  pub record_describes : AreRecordsOfLists singles slots → (key : ℕ) (r : Record) → slot_at slots key ≡ Some r → IsRecordOf (path_of (arena_in singles slots) key) r
   record_describes kept key r e =
       let of : path_of (arena_in singles slots) key ≡ path_from slots key r = path_of_at (arena_in singles slots) key (path_from slots key r) (path_of_slot key r e) in
       subst (λ p. IsRecordOf p r) (sym of) (record {
@@ -59,7 +59,7 @@ module _ (singles : List ℕ) (slots : List (Option Record)) where
       })
 
   -- the right part of a record with an edge has a record, with one edge less
-  pub right_slot : IsKept singles slots → (key hops : ℕ) (r : Record) → slot_at slots key ≡ Some r → r.hops ≡ suc hops → (s : Record) × (slot_at slots r.right ≡ Some s) × (s.hops ≡ hops)
+  pub right_slot : AreRecordsOfLists singles slots → (key hops : ℕ) (r : Record) → slot_at slots key ≡ Some r → r.hops ≡ suc hops → (s : Record) × (slot_at slots r.right ≡ Some s) × (s.hops ≡ hops)
   right_slot kept key hops r e long = by_kind (kept.arena.paths key (path_from slots key r) (path_of_slot key r e)).kind
     where
       a : Arena
@@ -72,28 +72,28 @@ module _ (singles : List ℕ) (slots : List (Option Record)) where
           let right_is : Some parts.right ≡ Some r.right = sym parts.right_is ∙ shown in
           let same : parts.right ≡ r.right = cc in
           let there = slot_of_live r.right (let F : ℕ → Type 0 = λ k. IsLive a k in subst F same parts.right_live) in
-          let list_is : list_of a r.right ≡ list_at slots there.0.hops r.right = ap (λ p. p.list) (path_of_at a r.right (path_from slots r.right there.0) (path_of_slot r.right there.0 there.1)) in
-          let tail : list_of a r.right ≡ right_part (list_at slots r.hops key) = ap (list_of a) (sym same) ∙ parts.right_list in
-          let shorter : right_part (list_at slots r.hops key) ≡ list_at slots hops (record_at slots key).right = ap (λ h. right_part (list_at slots h key)) long in
+          let list_is : list_of a r.right ≡ list_under slots there.0.hops r.right = ap (λ p. p.list) (path_of_at a r.right (path_from slots r.right there.0) (path_of_slot r.right there.0 there.1)) in
+          let tail : list_of a r.right ≡ right_part (list_under slots r.hops key) = ap (list_of a) (sym same) ∙ parts.right_list in
+          let shorter : right_part (list_under slots r.hops key) ≡ list_under slots hops (record_at slots key).right = ap (λ h. right_part (list_under slots h key)) long in
           (there.0, there.1, omega (arith, ap length list_is, ap length tail, ap length shorter, length-list_at slots there.0.hops r.right, length-list_at slots hops (record_at slots key).right))
 
 -- ---- records that stay
 
 module _ (old new : List (Option Record)) (G : ℕ → Type 0) (same : (key : ℕ) → G key → slot_at new key ≡ slot_at old key) (closed : (key hops : ℕ) (r : Record) → G key → slot_at old key ≡ Some r → r.hops ≡ suc hops → (s : Record) × (slot_at old r.right ≡ Some s) × (s.hops ≡ hops) × G r.right) where
-  list_at-same : (hops key : ℕ) (r : Record) → G key → slot_at old key ≡ Some r → r.hops ≡ hops → list_at new hops key ≡ list_at old hops key
+  list_at-same : (hops key : ℕ) (r : Record) → G key → slot_at old key ≡ Some r → r.hops ≡ hops → list_under new hops key ≡ list_under old hops key
   list_at-same zero key r g e h = ap (λ o. (unwrap_or o no_record).first ∷ []) (same key g)
   list_at-same (suc hops) key r g e h =
       let here : record_at new key ≡ record_at old key = ap (λ o. unwrap_or o no_record) (same key g) in
       let is : record_at old key ≡ r = record_of_slot old key r e in
       let next = closed key hops r g e h in
-      let rest : list_at new hops r.right ≡ list_at old hops r.right = list_at-same hops r.right next.0 next.3 next.1 next.2 in
-      ap (λ q. q.first ∷ list_at new hops q.right) (here ∙ is)
+      let rest : list_under new hops r.right ≡ list_under old hops r.right = list_at-same hops r.right next.0 next.3 next.1 next.2 in
+      ap (λ q. q.first ∷ list_under new hops q.right) (here ∙ is)
       ∙ ap (λ l. r.first ∷ l) rest
-      ∙ ap (λ q. q.first ∷ list_at old hops q.right) (sym is)
+      ∙ ap (λ q. q.first ∷ list_under old hops q.right) (sym is)
 
   pub path_from-same : (key : ℕ) (r : Record) → G key → slot_at old key ≡ Some r → path_from new key r ≡ path_from old key r
   path_from-same key r g e =
-      let lists : list_at new r.hops key ≡ list_at old r.hops key = list_at-same r.hops key r g e refl in
+      let lists : list_under new r.hops key ≡ list_under old r.hops key = list_at-same r.hops key r g e refl in
       λ i. record { list = lists i; weight = r.weight; birth = r.birth; left = part_id r.hops r.left; right = part_id r.hops r.right }
 
   -- what the map finds there
@@ -111,7 +111,7 @@ module _ (old new : List (Option Record)) (G : ℕ → Type 0) (same : (key : �
 
 -- ---- one record more
 
-module _ (singles : List ℕ) (old new : List (Option Record)) (key : ℕ) (r : Record) (kept : IsKept singles old) (put : IsPut old new key r) where
+module _ (singles : List ℕ) (old new : List (Option Record)) (key : ℕ) (r : Record) (kept : AreRecordsOfLists singles old) (put : IsPut old new key r) where
   -- an old record is not the new one
   apart : (k : ℕ) → IsLive (arena_in singles old) k → k ≢ key
   apart = λ k live. live_apart (arena_in singles old) key k (no_path_of_slot singles old key put.was) live
@@ -137,20 +137,20 @@ module _ (singles : List ℕ) (old new : List (Option Record)) (key : ℕ) (r : 
       λ i. record { vertices = length singles; singles = singles; paths = maps i }
 
   -- what each list of an old record had, each has, where the new one has it
-  ends_put : (F : List ℕ → Record → Type 0) → ((k : ℕ) (q : Record) → slot_at old k ≡ Some q → F (list_at old q.hops k) q) → F (list_at new r.hops key) r → (k : ℕ) (q : Record) → slot_at new k ≡ Some q → F (list_at new q.hops k) q
+  ends_put : (F : List ℕ → Record → Type 0) → ((k : ℕ) (q : Record) → slot_at old k ≡ Some q → F (list_under old q.hops k) q) → F (list_under new r.hops key) r → (k : ℕ) (q : Record) → slot_at new k ≡ Some q → F (list_under new q.hops k) q
   ends_put F before here k q e = at_key (cases_eq k key)
     where
-      at_key : (k ≡ key) ⊎ (k ≢ key) → F (list_at new q.hops k) q
+      at_key : (k ≡ key) ⊎ (k ≢ key) → F (list_under new q.hops k) q
       at_key (inl same) =
           let there : slot_at new key ≡ Some q = subst (λ j. slot_at new j ≡ Some q) same e in
           let r_is : r ≡ q = (let two : Some r ≡ Some q = sym put.here ∙ there in cc) in
-          subst (λ j. F (list_at new q.hops j) q) (sym same)
-          (subst (λ (s : Record). F (list_at new s.hops key) s) r_is here)
+          subst (λ j. F (list_under new q.hops j) q) (sym same)
+          (subst (λ (s : Record). F (list_under new s.hops key) s) r_is here)
       at_key (inr other) =
           let was : slot_at old k ≡ Some q = sym (put.others k other) ∙ e in
           subst (λ l. F l q) (sym (ap (λ (s : Path). s.list) (path_from_old k q was))) (before k q was)
 
-  pub kept_put : (p : Path) → path_from new key r ≡ p → IsPath (arena_in singles old) key p → second p.list ≡ Some r.second → last p.list ≡ Some r.last → IsKept singles new
+  pub kept_put : (p : Path) → path_from new key r ≡ p → IsPath (arena_in singles old) key p → second p.list ≡ Some r.second → last p.list ≡ Some r.last → AreRecordsOfLists singles new
   kept_put p is path begins ends = record {
     arena = subst IsArena (sym (arena_put p is)) (IsArena-with (arena_in singles old) key p kept.arena (no_path_of_slot singles old key put.was) path);
     second = ends_put (λ l q. second l ≡ Some q.second) kept.second (ap (λ (s : Path). second s.list) is ∙ begins);
@@ -159,7 +159,7 @@ module _ (singles : List ℕ) (old new : List (Option Record)) (key : ℕ) (r : 
 
 -- ---- one record less
 
-module _ (singles : List ℕ) (old new : List (Option Record)) (key : ℕ) (kept : IsKept singles old) (taken : IsTaken old new key) (edge : HasAnEdge (arena_in singles old) key) (free : IsPartOfNone (arena_in singles old) key) where
+module _ (singles : List ℕ) (old new : List (Option Record)) (key : ℕ) (kept : AreRecordsOfLists singles old) (taken : IsTaken old new key) (edge : HasAnEdge (arena_in singles old) key) (free : IsPartOfNone (arena_in singles old) key) where
   IsLeft : ℕ → Type 0
   IsLeft k = k ≢ key
 
@@ -178,11 +178,11 @@ module _ (singles : List ℕ) (old new : List (Option Record)) (key : ℕ) (kept
       λ i. record { vertices = length singles; singles = singles; paths = maps i }
 
   -- what each list of a record had, each that is left has
-  ends_taken : (F : List ℕ → Record → Type 0) → ((k : ℕ) (q : Record) → slot_at old k ≡ Some q → F (list_at old q.hops k) q) → (k : ℕ) (q : Record) → slot_at new k ≡ Some q → F (list_at new q.hops k) q
+  ends_taken : (F : List ℕ → Record → Type 0) → ((k : ℕ) (q : Record) → slot_at old k ≡ Some q → F (list_under old q.hops k) q) → (k : ℕ) (q : Record) → slot_at new k ≡ Some q → F (list_under new q.hops k) q
   unfolding IsLeft
   ends_taken F before k q e = at_key (cases_eq k key)
     where
-      at_key : (k ≡ key) ⊎ (k ≢ key) → F (list_at new q.hops k) q
+      at_key : (k ≡ key) ⊎ (k ≢ key) → F (list_under new q.hops k) q
       at_key (inl same) =
           let there : slot_at new key ≡ Some q = subst (λ j. slot_at new j ≡ Some q) same e in
           absurd (let no : None ≡ Some q = sym taken.here ∙ there in cc)
@@ -190,7 +190,7 @@ module _ (singles : List ℕ) (old new : List (Option Record)) (key : ℕ) (kept
           let was : slot_at old k ≡ Some q = sym (taken.others k other) ∙ e in
           subst (λ l. F l q) (sym (ap (λ (s : Path). s.list) (path_from-same old new IsLeft taken.others left_closed k q other was))) (before k q was)
 
-  pub kept_taken : IsKept singles new
+  pub kept_taken : AreRecordsOfLists singles new
   kept_taken = record {
     arena = subst IsArena (sym arena_taken) (IsArena-without (arena_in singles old) key kept.arena edge free);
     second = ends_taken (λ l q. second l ≡ Some q.second) kept.second;

@@ -60,8 +60,8 @@ path_of a id = unwrap_or (path_at a id) no_path
 abbrev pub list_of : Arena → ℕ → List ℕ
 list_of a id = (path_of a id).list
 
-abbrev pub weight_of : Arena → ℕ → ℕ
-weight_of a id = (path_of a id).weight
+abbrev pub weight_of_id : Arena → ℕ → ℕ
+weight_of_id a id = (path_of a id).weight
 
 -- the id of the path without its last vertex
 abbrev pub left_of : Arena → ℕ → Option ℕ
@@ -77,7 +77,7 @@ HasAnEdge a id = IsSome (left_of a id)
 
 -- by weight, then by the number of edges, then lexicographically
 abbrev pub id_cmp : Arena → ℕ → ℕ → Ordering
-id_cmp a x y = path_cmp (weight_of a x) (list_of a x) (weight_of a y) (list_of a y)
+id_cmp a x y = path_cmp (weight_of_id a x) (list_of a x) (weight_of_id a y) (list_of a y)
 
 -- the vertex behind the first, or the first where it stands alone
 abbrev pub second : List ℕ → Option ℕ
@@ -106,7 +106,7 @@ overlap_of a l = unwrap_or (right_of a l) 0
 abbrev pub joined_path : Arena → ℕ → ℕ → ℕ → Path
 joined_path a l r birth = record {
   list = list_of a l ++ option_to_list (last (list_of a r));
-  weight = weight_of a l + weight_of a r - weight_of a (overlap_of a l);
+  weight = weight_of_id a l + weight_of_id a r - weight_of_id a (overlap_of a l);
   birth = birth;
   left = Some l;
   right = Some r;
@@ -142,9 +142,9 @@ pub record HasParts (a : Arena) (p : Path) : Type 0 where
   pub right_live : IsLive a right
   pub left_list : list_of a left ≡ left_part p.list
   pub right_list : list_of a right ≡ right_part p.list
-  pub left_lighter : weight_of a left ≤ p.weight
-  pub right_lighter : weight_of a right ≤ p.weight
-  pub last_edge : p.weight ≤ weight_of a left + MOST_WEIGHT
+  pub left_lighter : weight_of_id a left ≤ p.weight
+  pub right_lighter : weight_of_id a right ≤ p.weight
+  pub last_edge : p.weight ≤ weight_of_id a left + MOST_WEIGHT
 
 -- the id is that of a single vertex
 abbrev pub IsSingle : Arena → ℕ → Path → Type 0

@@ -17,9 +17,9 @@ abbrev pub record_at : List (Option Record) → ℕ → Record
 record_at slots key = unwrap_or (slot_at slots key) no_record
 
 -- the first vertices of the record under a key and of so many records that follow it by right parts
-abbrev pub list_at : List (Option Record) → ℕ → ℕ → List ℕ
-list_at slots zero key = (record_at slots key).first ∷ []
-list_at slots (suc hops) key = (record_at slots key).first ∷ list_at slots hops (record_at slots key).right
+abbrev pub list_under : List (Option Record) → ℕ → ℕ → List ℕ
+list_under slots zero key = (record_at slots key).first ∷ []
+list_under slots (suc hops) key = (record_at slots key).first ∷ list_under slots hops (record_at slots key).right
 
 -- the id of a part, which a record without an edge lacks
 abbrev pub part_id : ℕ → ℕ → Option ℕ
@@ -28,7 +28,7 @@ part_id (suc hops) key = Some key
 
 abbrev pub path_from : List (Option Record) → ℕ → Record → Path
 path_from slots key r = record {
-  list = list_at slots r.hops key;
+  list = list_under slots r.hops key;
   weight = r.weight;
   birth = r.birth;
   left = part_id r.hops r.left;
@@ -62,13 +62,14 @@ pub record IsRecordOf (p : Path) (r : Record) : Type 0 where
   pub right : p.right ≡ part_id r.hops r.right
 
 -- each record keeps the second and the last vertex of its list
-pub record IsKept (singles : List ℕ) (slots : List (Option Record)) : Type 0 where
+pub record AreRecordsOfLists (singles : List ℕ) (slots : List (Option Record)) : Type 0 where
   pub arena : IsArena (arena_in singles slots)
-  pub second : (key : ℕ) (r : Record) → slot_at slots key ≡ Some r → second (list_at slots r.hops key) ≡ Some r.second
-  pub last : (key : ℕ) (r : Record) → slot_at slots key ≡ Some r → last (list_at slots r.hops key) ≡ Some r.last
+  pub second : (key : ℕ) (r : Record) → slot_at slots key ≡ Some r
+      → second (list_under slots r.hops key) ≡ Some r.second
+  pub last : (key : ℕ) (r : Record) → slot_at slots key ≡ Some r → last (list_under slots r.hops key) ≡ Some r.last
 
 abbrev pub IsSound : Inside → Type 0
-IsSound a = IsKept a.singles.items a.records.slots
+IsSound a = AreRecordsOfLists a.singles.items a.records.slots
 
 -- the new slots have the record under a key that was vacant, and every other key keeps what it had
 pub record IsPut (old new : List (Option Record)) (key : ℕ) (r : Record) : Type 0 where

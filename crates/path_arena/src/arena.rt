@@ -5,7 +5,7 @@ ghost use Rattle.std.specs.Ordering.{nat_cmp};
 ghost use Rattle.std.specs.Cmp.Lexicographic.{slice_cmp};
 ghost use Rattle.apsp_model.specs.Walk.{first, last, hops_of};
 ghost use Rattle.apsp_model.specs.Order.{path_cmp};
-ghost use Rattle.path_arena.specs.Arena.{path_at, vertex_of, IsLive, path_of, list_of, weight_of, left_of, right_of, HasAnEdge, single, edge_path, joined_path, with_path, without_path, second, IsPartOfNone, CanJoin, IsArena, IsOpening};
+ghost use Rattle.path_arena.specs.Arena.{path_at, vertex_of, IsLive, path_of, list_of, weight_of_id, left_of, right_of, HasAnEdge, single, edge_path, joined_path, with_path, without_path, second, IsPartOfNone, CanJoin, IsArena, IsOpening};
 ghost use Rattle.path_arena.specs.Records.{IsPut, IsSingleRecord};
 
 use crate::id::PathId;
@@ -186,7 +186,7 @@ impl Arena {
     /// The weight of a live path.
     pub fn weight(&self, id: PathId) -> u64
         requires { IsLive self.now id }
-        ensures value { result ≡ weight_of self.now id }
+        ensures value { result ≡ weight_of_id self.now id }
         ensures lawful { IsArena self.now }
     {
         self.record(id).weight
@@ -248,7 +248,7 @@ impl Arena {
         requires first { IsLive self.now a }
         requires second { IsLive self.now b }
         ensures value { result
-            ≡ path_cmp (weight_of self.now a) (list_of self.now a) (weight_of self.now b) (list_of self.now b) }
+            ≡ path_cmp (weight_of_id self.now a) (list_of self.now a) (weight_of_id self.now b) (list_of self.now b) }
         ensures lawful { IsArena self.now }
     {
         let (left, right) = (self.record(a), self.record(b));
@@ -314,13 +314,15 @@ fn single_record(v: u32) -> Record
     }
 }
 
-/// Puts a record under a new key that an id can hold. Memory changes no slot.
+/// Puts a record under a new key that an id can hold. Memory changes no slot. The two halves of the
+/// slab's `insert` are made in place, which that one is not.
 #[inline(always)]
 fn put(records: &mut Slab<Record>, path: Record) -> Result<PathId, Memory>
     ensures ok { IfOk result (λ key. IsPut records.old.slots records.new.slots key path) }
     ensures memory { OnErr result (records.new.slots ≡ records.old.slots) }
 {
     let key = u32::try_from(records.vacant_key()).map_err(|_| Memory)?;
-    records.insert(path).map_err(|_| Memory)?;
+    records.reserve(1).map_err(|_| Memory)?;
+    let _ = records.insert_reserved(path);
     Ok(PathId::new(key))
 }

@@ -1,7 +1,7 @@
 use Rattle.std.proofs.Common.{◌≡◌, ◌+◌, ◌-◌, ◌<◌, ◌≤◌, inl, inr, sym, subst, arith, List, ℕ, set, take, drop, length, get_or}
 use Rattle.std.specs.List.{SameBelow, SameFrom}
 use Rattle.id_pool.specs.Blocks.{room_of, IsGiven}
-use Rattle.id_pool.specs.Heads.{Shape, Far, IsPlaced, IsMoved}
+use Rattle.id_pool.specs.Heads.{Shape, Far, IsPlacedInPool, IsMoved}
 use Rattle.id_pool.proofs.Places.{room_some, room_double}
 use Rattle.id_pool.proofs.Moves.{IsSameOutside, moved_on}
 use Rattle.id_pool.proofs.Parts.{carried}
@@ -30,7 +30,7 @@ returns-clause-moved c = λ mark.
     let far : Shape = Far level c.args.len c.args.place mark in
     let now : Shape = Far (level + 1) c.args.len to mark in
     let t : IsGiven ids free ids1 free1 to (level + 1) = c.in_ok-to.ensures.ok in
-    let placed : IsPlaced ids free (Far level c.args.len c.args.place 0) = c.requires in
+    let placed : IsPlacedInPool ids free (Far level c.args.len c.args.place 0) = c.requires in
     let fits : c.args.len ≤ room_of (level + 1) = omega (arith, placed.at.1, room_double level) in
     let level_in : level + 1 < 13 = omega (arith, placed.at.0, c.if-level-eq-LEVELS.false) in
     let many : length ids2 ≡ length ids1 = omega (arith, c.copy_within.ensures.len, c.copy_within.new.self.ok.0, c.take.new.self.ids.ok.0) in
@@ -50,7 +50,7 @@ returns-clause-ids c =
     let to = c.in_ok-to.to in
     let level = c.args.level in
     let t : IsGiven ids free ids1 free1 to (level + 1) = c.in_ok-to.ensures.ok in
-    let placed : IsPlaced ids free (Far level c.args.len c.args.place 0) = c.requires in
+    let placed : IsPlacedInPool ids free (Far level c.args.len c.args.place 0) = c.requires in
     let many : length ids2 ≡ length ids1 = omega (arith, c.copy_within.ensures.len, c.copy_within.new.self.ok.0, c.take.new.self.ids.ok.0) in
     subst (λ (xs : List ℕ). take c.args.len (drop to xs) ≡ take c.args.len (drop c.args.place ids)) (sym c.give_back.ensures.ids)
     (carried ids free ids1 free1 ids2 level (level + 1) c.args.len c.args.place to 0 (c.args.place + c.args.len - c.args.place) (get_or free1 level 0) placed t (omega (arith, placed.at.1, room_double level)) (omega arith) many c.copy_within.ensures.by_index.0)

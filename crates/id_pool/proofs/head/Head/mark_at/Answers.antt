@@ -1,7 +1,7 @@
 use Rattle.std.proofs.Common.{◌≡◌, ◌+◌, ◌<◌, ◌≤◌, sym, subst, arith, get_or, set}
 use Rattle.std.proofs.lemmas.List.{get_or_default}
 use Rattle.id_pool.specs.declared.head.Head.{Head}
-use Rattle.id_pool.specs.Heads.{Shape, Near, shape, far_of, IsPlaced, IsMoved, len_of, mark_of}
+use Rattle.id_pool.specs.Heads.{Shape, Near, shape, far_of, IsPlacedInPool, IsMoved, len_of, mark_of}
 use Rattle.id_pool.specs.Lists.{IsMarkedAt}
 use Rattle.id_pool.proofs.Shapes.{near_is, far_is, as_near, held_as}
 use Rattle.id_pool.proofs.Taking.{near_marked}
@@ -26,7 +26,7 @@ returns-clause-marked c =
     let x = get_or h.few at c.index-self-at.result in
     let y = get_or h.few h.mark c.index-self-first.result in
     let h' : Head = record { len = h.len; mark = h.mark + 1; few = set (set h.few h.mark x) at y } in
-    let placed : IsPlaced ids c.args.blocks.now.free (Near h.len h.mark h.few) = as_near ids c.args.blocks.now.free h few c.requires.placed in
+    let placed : IsPlacedInPool ids c.args.blocks.now.free (Near h.len h.mark h.few) = as_near ids c.args.blocks.now.free h few c.requires.placed in
     let inside : at < h.len = subst (λ (s : Shape). at < len_of s) (near_is h few) c.requires.inside in
     let plain : h.mark ≤ at = subst (λ (s : Shape). mark_of s ≤ at) (near_is h few) c.requires.plain in
     held_as ids ids h h' (Near h.len h.mark h.few) (Near h.len (h.mark + 1) (set (set h.few h.mark x) at y)) (λ a b. IsMarkedAt a b at) (near_is h few) (near_is h' few)

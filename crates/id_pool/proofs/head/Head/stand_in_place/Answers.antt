@@ -23,4 +23,4 @@ returns-clause-moved c =
     subst (λ (s : Shape). IsMoved ids free (far_of h) c.give_back.new.self.ids.items c.give_back.new.self.free s) (sym (near_is h' (omega (arith, c.requires.three))))
     (subst (λ (xs : List ℕ). IsMoved ids free (far_of h) xs c.give_back.new.self.free (Near h.len h.mark few)) (sym ids_is)
     (subst (λ (xs : List ℕ). IsMoved ids free (far_of h) (set ids place (get_or free level 0)) xs (Near h.len h.mark few)) (sym free_is)
-    (brought_back ids free few level h.len place h.mark (omega (arith, c.requires.three)) three)))
+    (brought_back ids free few level h.len place h.mark h.len h.mark (omega (arith, c.requires.three)) (λ m. m) three)))

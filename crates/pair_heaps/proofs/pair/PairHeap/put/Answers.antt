@@ -4,7 +4,7 @@ use Rattle.pair_heaps.specs.declared.pair.Ids.{Ids}
 use Rattle.pair_heaps.specs.declared.pair.Ids.TheVariants.{InPlace, InBlock}
 use Rattle.pair_heaps.specs.declared.pair.PairHeap.TheInside.{Inside}
 use Rattle.pair_heaps.specs.Heaps.{Pair}
-use Rattle.pair_heaps.specs.Layout.{pair_of, len_of, with_len, IsPairHeap}
+use Rattle.pair_heaps.specs.Layout.{pair_of, id_count, with_len, IsPairHeap}
 use Rattle.pair_heaps.proofs.Pairs.{IsPutIn, put_in}
 use Rattle.pair_heaps.proofs.pair.PairHeap.put.Goals as goal
 use Rattle.pair_heaps.proofs.pair.PairHeap.put.Goals.{in-InPlace, in-InBlock}
@@ -14,7 +14,7 @@ is_put c = elim c.match-self.branch [
   | in-InPlace w ↦
       let k = c.len-len.result in
       let view : pair_of (InPlace w.in-InPlace.field-0 w.in-InPlace.few) ≡ c.args.self.now = subst (λ (i : Ids). pair_of i ≡ c.args.self.now) w.in-InPlace.is c.self.view_is in
-      let as_many : k ≡ w.in-InPlace.field-0 = subst (λ (i : Ids). k ≡ len_of i) w.in-InPlace.is c.len-len.ensures in
+      let as_many : k ≡ w.in-InPlace.field-0 = subst (λ (i : Ids). k ≡ id_count i) w.in-InPlace.is c.len-len.ensures in
       let sound : IsPairHeap (InPlace w.in-InPlace.field-0 w.in-InPlace.few) = subst (λ (i : Ids). IsPairHeap i) w.in-InPlace.is c.self.invariant in
       let now : c.set_len.new.self ≡ InPlace (k + 1) w.put.new.entries = c.set_len.ensures ∙ ap (λ (i : Inside). with_len i.ids (k + 1)) w.self-inside-is in
       subst (λ (i : Ids). IsPutIn c.args.arena.now c.args.id c.args.self.now i) (sym now)
@@ -24,7 +24,7 @@ is_put c = elim c.match-self.branch [
   | in-InBlock w ↦
       let k = c.len-len.result in
       let view : pair_of (InBlock w.in-InBlock.field-0 w.in-InBlock.front w.in-InBlock.block) ≡ c.args.self.now = subst (λ (i : Ids). pair_of i ≡ c.args.self.now) w.in-InBlock.is c.self.view_is in
-      let as_many : k ≡ w.in-InBlock.field-0 = subst (λ (i : Ids). k ≡ len_of i) w.in-InBlock.is c.len-len.ensures in
+      let as_many : k ≡ w.in-InBlock.field-0 = subst (λ (i : Ids). k ≡ id_count i) w.in-InBlock.is c.len-len.ensures in
       let sound : IsPairHeap (InBlock w.in-InBlock.field-0 w.in-InBlock.front w.in-InBlock.block) = subst (λ (i : Ids). IsPairHeap i) w.in-InBlock.is c.self.invariant in
       let now : c.set_len.new.self ≡ InBlock (k + 1) w.put_in_block.result w.put_in_block.new.block = c.set_len.ensures ∙ ap (λ (i : Inside). with_len i.ids (k + 1)) w.self-inside-is in
       subst (λ (i : Ids). IsPutIn c.args.arena.now c.args.id c.args.self.now i) (sym now)
