@@ -6,13 +6,13 @@ use Rattle.std.proofs.lemmas.List.{length-set, length_push, length-map, get_or-m
 use Rattle.weight_classes.specs.declared.buckets.Bucket.{Bucket}
 use Rattle.weight_classes.specs.declared.buckets.TheConstants.{NO_BUCKET}
 use Rattle.weight_classes.specs.Classes.{Rank}
-use Rattle.weight_classes.specs.Inside.{rank_in, ranks_in, nexts_in, rank_at, no_rank, cell_of, IsLatest, AreIndexed, IsIndexed}
+use Rattle.weight_classes.specs.Inside.{rank_in, ranks_in, nexts_in, rank_at, no_rank, cell_of, IsLatestInCell, AreIndexed, IsIndexed}
 
 -- p may be the bucket of the rank r, and none from there on is
 pub record IsOnChain (cells : ℕ) (rs : List Rank) (r : Rank) (p : ℕ) : Type 0 where
   pub m : ℕ
   pub upto : m ≤ length rs
-  pub latest : IsLatest cells rs (cell_of cells r) p m
+  pub latest : IsLatestInCell cells rs (cell_of cells r) p m
   pub others : (j : ℕ) → m ≤ j → j < length rs → rank_at rs j ≢ r
 
 module _ (cells : ℕ) (heads : List ℕ) (rs : List Rank) (nexts : List ℕ) (s : AreIndexed cells heads rs nexts) (r : Rank) where
@@ -20,7 +20,7 @@ module _ (cells : ℕ) (heads : List ℕ) (rs : List Rank) (nexts : List ℕ) (s
   chain_starts cell p is inside at = record {
     m = length rs;
     upto = omega arith;
-    latest = subst (λ k. IsLatest cells rs k p (length rs)) is (subst (λ q. IsLatest cells rs cell q (length rs)) (sym at) (s.latest cell inside));
+    latest = subst (λ k. IsLatestInCell cells rs k p (length rs)) is (subst (λ q. IsLatestInCell cells rs cell q (length rs)) (sym at) (s.latest cell inside));
     others = λ j upto in_j. absurd (omega (arith, upto, in_j));
   }
 
@@ -34,7 +34,7 @@ module _ (cells : ℕ) (heads : List ℕ) (rs : List Rank) (nexts : List ℕ) (s
         let l : p < c.m = here.0 in
         let inside : p < length rs = omega (arith, l, c.upto) in
         let here_cell : cell_of cells (rank_at rs p) ≡ cell_of cells r = here.1 in
-        let next : IsLatest cells rs (cell_of cells r) q p = subst (λ k. IsLatest cells rs k q p) here_cell (subst (λ k. IsLatest cells rs (cell_of cells (rank_at rs p)) k p) (sym at) (s.chained p inside)) in (
+        let next : IsLatestInCell cells rs (cell_of cells r) q p = subst (λ k. IsLatestInCell cells rs k q p) here_cell (subst (λ k. IsLatestInCell cells rs (cell_of cells (rank_at rs p)) k p) (sym at) (s.chained p inside)) in (
           record {
             m = p;
             upto = omega (arith, inside);
@@ -74,7 +74,7 @@ rank_last : (rs : List Rank) (r : Rank) → rank_at (rs ++ r ∷ []) (length rs)
 rank_last rs r = get_or_push rs r no_rank (length rs) refl
 
 -- a bucket behind does not matter below m
-latest_below : (cells : ℕ) (rs : List Rank) (r : Rank) (cell p m : ℕ) → m ≤ length rs → IsLatest cells rs cell p m → IsLatest cells (rs ++ r ∷ []) cell p m
+latest_below : (cells : ℕ) (rs : List Rank) (r : Rank) (cell p m : ℕ) → m ≤ length rs → IsLatestInCell cells rs cell p m → IsLatestInCell cells (rs ++ r ∷ []) cell p m
 latest_below cells rs r cell p m upto h = elim h [
   | inl none ↦ inl (none.0, λ j less e. none.1 j less (ap (cell_of cells) (sym (rank_old rs r j (omega (arith, less, upto)))) ∙ e))
   | inr at ↦
@@ -83,7 +83,7 @@ latest_below cells rs r cell p m upto h = elim h [
 ]
 
 -- a bucket of another cell does not matter
-latest_other : (cells : ℕ) (rs : List Rank) (r : Rank) (cell p : ℕ) → cell_of cells r ≢ cell → IsLatest cells rs cell p (length rs) → IsLatest cells (rs ++ r ∷ []) cell p (length (rs ++ r ∷ []))
+latest_other : (cells : ℕ) (rs : List Rank) (r : Rank) (cell p : ℕ) → cell_of cells r ≢ cell → IsLatestInCell cells rs cell p (length rs) → IsLatestInCell cells (rs ++ r ∷ []) cell p (length (rs ++ r ∷ []))
 latest_other cells rs r cell p apart h = elim (latest_below cells rs r cell p (length rs) (omega arith) h) [
   | inl none ↦ inl (none.0, λ j less e. at_end j less e (none.1 j))
   | inr at ↦ let l : p < length rs = at.0 in inr (omega (arith, l, length_push rs r), at.1, λ j more less e. at_end j less e (at.2 j more))
@@ -109,18 +109,18 @@ module _ (cells : ℕ) (heads : List ℕ) (rs : List Rank) (nexts : List ℕ) (s
         ap (λ p. cell_of cells (rank_at (rs ++ r ∷ []) p)) (head_is k here) ∙ ap (cell_of cells) (rank_last rs r) ∙ sym is ∙ sym here,
         λ j more less. absurd (omega (arith, more, less, head_is k here, length_push rs r)),
       )
-      | inr apart ↦ subst (λ p. IsLatest cells (rs ++ r ∷ []) k p (length (rs ++ r ∷ []))) (sym (get_or-set_other heads cell k (length rs) 0 apart)) (latest_other cells rs r k (slice_index heads k) (λ e. apart (sym e ∙ sym is)) (s.latest k k_in))
+      | inr apart ↦ subst (λ p. IsLatestInCell cells (rs ++ r ∷ []) k p (length (rs ++ r ∷ []))) (sym (get_or-set_other heads cell k (length rs) 0 apart)) (latest_other cells rs r k (slice_index heads k) (λ e. apart (sym e ∙ sym is)) (s.latest k k_in))
     ];
     chained = λ i i_in. elim (cases_lt i (length rs)) [
       | inl old ↦
-          subst (λ (k : ℕ). IsLatest cells (rs ++ r ∷ []) k (slice_index (nexts ++ slice_index heads cell ∷ []) i) i) (ap (cell_of cells) (sym (rank_old rs r i old)))
-          (subst (λ p. IsLatest cells (rs ++ r ∷ []) (cell_of cells (rank_at rs i)) p i) (sym (get_or_append_left nexts (slice_index heads cell ∷ []) 0 i (omega (arith, old, s.many))))
+          subst (λ (k : ℕ). IsLatestInCell cells (rs ++ r ∷ []) k (slice_index (nexts ++ slice_index heads cell ∷ []) i) i) (ap (cell_of cells) (sym (rank_old rs r i old)))
+          (subst (λ p. IsLatestInCell cells (rs ++ r ∷ []) (cell_of cells (rank_at rs i)) p i) (sym (get_or_append_left nexts (slice_index heads cell ∷ []) 0 i (omega (arith, old, s.many))))
           (latest_below cells rs r (cell_of cells (rank_at rs i)) (slice_index nexts i) i (omega (arith, old)) (s.chained i old)))
       | inr last ↦
           let at : i ≡ length rs = omega (arith, i_in, last, length_push rs r) in
-          subst (λ k. IsLatest cells (rs ++ r ∷ []) (cell_of cells (rank_at (rs ++ r ∷ []) k)) (slice_index (nexts ++ slice_index heads cell ∷ []) k) k) (sym at)
-          (subst (λ (k : ℕ). IsLatest cells (rs ++ r ∷ []) k (slice_index (nexts ++ slice_index heads cell ∷ []) (length rs)) (length rs)) (is ∙ ap (cell_of cells) (sym (rank_last rs r)))
-          (subst (λ p. IsLatest cells (rs ++ r ∷ []) cell p (length rs)) (sym (get_or_push nexts (slice_index heads cell) 0 (length rs) s.many))
+          subst (λ k. IsLatestInCell cells (rs ++ r ∷ []) (cell_of cells (rank_at (rs ++ r ∷ []) k)) (slice_index (nexts ++ slice_index heads cell ∷ []) k) k) (sym at)
+          (subst (λ (k : ℕ). IsLatestInCell cells (rs ++ r ∷ []) k (slice_index (nexts ++ slice_index heads cell ∷ []) (length rs)) (length rs)) (is ∙ ap (cell_of cells) (sym (rank_last rs r)))
+          (subst (λ p. IsLatestInCell cells (rs ++ r ∷ []) cell p (length rs)) (sym (get_or_push nexts (slice_index heads cell) 0 (length rs) s.many))
           (latest_below cells rs r cell (slice_index heads cell) (length rs) (omega arith) (s.latest cell inside))))
     ];
   }

@@ -5,15 +5,15 @@ use Rattle.std.proofs.lemmas.Bool.{false≢true}
 use Rattle.apsp_model.specs.Walk.{hops_of}
 use Rattle.path_arena.specs.Arena.{Arena, Path, path_at, IsLive, with_path, no_path}
 use Rattle.path_arena.proofs.Keys.{get_put, get_put_other}
-use Rattle.weight_classes.specs.Classes.{Classes, Rank, IsHeld, Fits}
+use Rattle.weight_classes.specs.Classes.{Classes, Rank, IsHeldWithRank, ClassesFit}
 use Rattle.weight_classes.proofs.Held.{fits_agree}
 
 pub record IsFreshIn (c : Classes) (b : Arena) (id : ℕ) : Type 0 where
-  pub fits : Fits c b
+  pub fits : ClassesFit c b
   pub live : IsLive b id
-  pub fresh : (r : Rank) → IsHeld c r id → ⊥
+  pub fresh : (r : Rank) → IsHeldWithRank c r id → ⊥
 
-pub fresh_in : (c : Classes) (a b : Arena) (id : ℕ) (p : Path) → Fits c a → path_at a id ≡ None → b ≡ with_path a id p → IsFreshIn c b id
+pub fresh_in : (c : Classes) (a b : Arena) (id : ℕ) (p : Path) → ClassesFit c a → path_at a id ≡ None → b ≡ with_path a id p → IsFreshIn c b id
 fresh_in c a b id p fits gone added = subst (λ (m : Arena). IsFreshIn c m id) (sym added) (record {
   fits = fits_agree c a (with_path a id p) fits (record {
     vertices = refl;
@@ -24,8 +24,8 @@ fresh_in c a b id p fits gone added = subst (λ (m : Arena). IsFreshIn c m id) (
   fresh = fresh;
 })
   where
-    fresh : (r : Rank) → IsHeld c r id → ⊥
+    fresh : (r : Rank) → IsHeldWithRank c r id → ⊥
     fresh w held = false≢true (sym (ap is_some gone) ∙ fits.live w id held)
 
-    kept : (w : Rank) (q : ℕ) → IsHeld c w q → path_at (with_path a id p) q ≡ path_at a q
-    kept w q held = get_put_other a.paths id p q (λ same. fresh w (subst (IsHeld c w) same held))
+    kept : (w : Rank) (q : ℕ) → IsHeldWithRank c w q → path_at (with_path a id p) q ≡ path_at a q
+    kept w q held = get_put_other a.paths id p q (λ same. fresh w (subst (IsHeldWithRank c w) same held))

@@ -7,9 +7,9 @@ use Rattle.std.proofs.lemmas.List.Sorted.{IsPermutation-refl, IsPermutation-sym,
 use Rattle.std.proofs.lemmas.List.Elements.{Contains-append_left, Contains-append_right, Contains-append_cases}
 use Rattle.path_arena.specs.Arena.{Arena, IsLive}
 use Rattle.weight_classes.specs.declared.buckets.Bucket.{Bucket}
-use Rattle.weight_classes.specs.Classes.{Classes, Rank, IsHeld, IsPushed, IsPopped, Fits, AgreeOnHeld, ranked, rank_of}
-use Rattle.weight_classes.specs.Inside.{rank_in, ranks_in, nexts_in, idss_in, rank_at, ids_at, no_rank, held_by}
-use Rattle.weight_classes.specs.Ids.{ids_of}
+use Rattle.weight_classes.specs.Classes.{Classes, Rank, IsHeldWithRank, IsPushed, IsPopped, ClassesFit, AgreeOnRanks, ranked, rank_of}
+use Rattle.weight_classes.specs.Inside.{rank_in, ranks_in, nexts_in, idss_in, needs_in, need_at, rank_at, bucket_ids, no_rank, held_by}
+use Rattle.weight_classes.specs.Ids.{ids_in, need_of}
 
 -- ---- lists
 
@@ -60,26 +60,26 @@ module _ (rs : List Rank) (idss : List (List ℕ)) (i : ℕ) (inside : i < lengt
   split : IsSplit rs idss i
   split = split_at rs idss i inside many
 
-  as_before : IsPermutation (held_by rs idss) (ranked (rank_at rs i) (ids_at idss i) ++ split.others)
-  as_before = subst (λ js. IsPermutation (held_by rs js) (ranked (rank_at rs i) (ids_at idss i) ++ split.others)) (set-get_or idss i []) (split.with_ids (ids_at idss i))
+  as_before : IsPermutation (held_by rs idss) (ranked (rank_at rs i) (bucket_ids idss i) ++ split.others)
+  as_before = subst (λ js. IsPermutation (held_by rs js) (ranked (rank_at rs i) (bucket_ids idss i) ++ split.others)) (set-get_or idss i []) (split.with_ids (bucket_ids idss i))
 
-  pub held_more : (id : ℕ) → IsPermutation ((rank_at rs i, id) ∷ held_by rs idss) (held_by rs (slice_set idss i (ids_at idss i ++ id ∷ [])))
+  pub held_more : (id : ℕ) → IsPermutation ((rank_at rs i, id) ∷ held_by rs idss) (held_by rs (slice_set idss i (bucket_ids idss i ++ id ∷ [])))
   held_more id =
       let r : Rank = rank_at rs i in
-      let old : List (Rank × ℕ) = ranked r (ids_at idss i) in
+      let old : List (Rank × ℕ) = ranked r (bucket_ids idss i) in
       let one : List (Rank × ℕ) = (r, id) ∷ [] in
-      let now : IsPermutation (held_by rs (slice_set idss i (ids_at idss i ++ id ∷ []))) ((old ++ one) ++ split.others) = subst (λ ls. IsPermutation (held_by rs (slice_set idss i (ids_at idss i ++ id ∷ []))) (ls ++ split.others)) (map-append (λ (q : ℕ). let p : Rank × ℕ = (r, q) in p) (ids_at idss i) (id ∷ [])) (split.with_ids (ids_at idss i ++ id ∷ [])) in
+      let now : IsPermutation (held_by rs (slice_set idss i (bucket_ids idss i ++ id ∷ []))) ((old ++ one) ++ split.others) = subst (λ ls. IsPermutation (held_by rs (slice_set idss i (bucket_ids idss i ++ id ∷ []))) (ls ++ split.others)) (map-append (λ (q : ℕ). let p : Rank × ℕ = (r, q) in p) (bucket_ids idss i) (id ∷ [])) (split.with_ids (bucket_ids idss i ++ id ∷ [])) in
       let front : IsPermutation ((old ++ one) ++ split.others) ((one ++ old) ++ split.others) = IsPermutation-append_left split.others (old ++ one) (one ++ old) (IsPermutation-append_comm old one) in
       let before : IsPermutation ((r, id) ∷ held_by rs idss) ((r, id) ∷ (old ++ split.others)) = IsPermutation-cons (r, id) (held_by rs idss) (old ++ split.others) as_before in
-      IsPermutation-trans ((r, id) ∷ held_by rs idss) ((r, id) ∷ (old ++ split.others)) (held_by rs (slice_set idss i (ids_at idss i ++ id ∷ []))) before
-      (IsPermutation-sym (held_by rs (slice_set idss i (ids_at idss i ++ id ∷ []))) ((r, id) ∷ (old ++ split.others))
-      (IsPermutation-trans (held_by rs (slice_set idss i (ids_at idss i ++ id ∷ []))) ((old ++ one) ++ split.others) ((r, id) ∷ (old ++ split.others)) now front))
+      IsPermutation-trans ((r, id) ∷ held_by rs idss) ((r, id) ∷ (old ++ split.others)) (held_by rs (slice_set idss i (bucket_ids idss i ++ id ∷ []))) before
+      (IsPermutation-sym (held_by rs (slice_set idss i (bucket_ids idss i ++ id ∷ []))) ((r, id) ∷ (old ++ split.others))
+      (IsPermutation-trans (held_by rs (slice_set idss i (bucket_ids idss i ++ id ∷ []))) ((old ++ one) ++ split.others) ((r, id) ∷ (old ++ split.others)) now front))
 
-  pub held_less : IsPermutation (held_by rs idss) (ranked (rank_at rs i) (ids_at idss i) ++ held_by rs (slice_set idss i []))
+  pub held_less : IsPermutation (held_by rs idss) (ranked (rank_at rs i) (bucket_ids idss i) ++ held_by rs (slice_set idss i []))
   held_less =
       let r : Rank = rank_at rs i in
-      IsPermutation-trans (held_by rs idss) (ranked r (ids_at idss i) ++ split.others) (ranked r (ids_at idss i) ++ held_by rs (slice_set idss i [])) as_before
-      (IsPermutation-append_right (ranked r (ids_at idss i)) split.others (held_by rs (slice_set idss i [])) (IsPermutation-sym (held_by rs (slice_set idss i [])) split.others (split.with_ids [])))
+      IsPermutation-trans (held_by rs idss) (ranked r (bucket_ids idss i) ++ split.others) (ranked r (bucket_ids idss i) ++ held_by rs (slice_set idss i [])) as_before
+      (IsPermutation-append_right (ranked r (bucket_ids idss i)) split.others (held_by rs (slice_set idss i [])) (IsPermutation-sym (held_by rs (slice_set idss i [])) split.others (split.with_ids [])))
 
 -- ---- what is held, by the buckets
 
@@ -99,19 +99,19 @@ to_ranked r (x ∷ ids) id c = elim (in_cons x ids id c) [
 
 module _ (rs : List Rank) (idss : List (List ℕ)) (i : ℕ) (inside : i < length rs) (many : length idss ≡ length rs) where
   -- the ids of a bucket are held with its rank
-  pub held_there : (id : ℕ) → Contains (ids_at idss i) id → Contains (held_by rs idss) (rank_at rs i, id)
+  pub held_there : (id : ℕ) → Contains (bucket_ids idss i) id → Contains (held_by rs idss) (rank_at rs i, id)
   held_there id c =
       let s : IsSplit rs idss i = split_at rs idss i inside many in
-      Contains-permutation (ranked (rank_at rs i) (ids_at idss i) ++ s.others) (held_by rs idss) (rank_at rs i, id)
-      (IsPermutation-sym (held_by rs idss) (ranked (rank_at rs i) (ids_at idss i) ++ s.others) (subst (λ js. IsPermutation (held_by rs js) (ranked (rank_at rs i) (ids_at idss i) ++ s.others)) (set-get_or idss i []) (s.with_ids (ids_at idss i))))
-      (Contains-append_left (ranked (rank_at rs i) (ids_at idss i)) s.others (rank_at rs i, id) (to_ranked (rank_at rs i) (ids_at idss i) id c))
+      Contains-permutation (ranked (rank_at rs i) (bucket_ids idss i) ++ s.others) (held_by rs idss) (rank_at rs i, id)
+      (IsPermutation-sym (held_by rs idss) (ranked (rank_at rs i) (bucket_ids idss i) ++ s.others) (subst (λ js. IsPermutation (held_by rs js) (ranked (rank_at rs i) (bucket_ids idss i) ++ s.others)) (set-get_or idss i []) (s.with_ids (bucket_ids idss i))))
+      (Contains-append_left (ranked (rank_at rs i) (bucket_ids idss i)) s.others (rank_at rs i, id) (to_ranked (rank_at rs i) (bucket_ids idss i) id c))
 
 -- the bucket in which an id is held
 pub record IsIn (rs : List Rank) (idss : List (List ℕ)) (r : Rank) (id : ℕ) : Type 0 where
   pub i : ℕ
   pub inside : i < length rs
   pub rank : rank_at rs i ≡ r
-  pub held : Contains (ids_at idss i) id
+  pub held : Contains (bucket_ids idss i) id
 
 pub held_where : (rs : List Rank) (idss : List (List ℕ)) (r : Rank) (id : ℕ) → Contains (held_by rs idss) (r, id) → IsIn rs idss r id
 held_where [] idss r id c = absurd (omega (arith, c.1))
@@ -121,7 +121,7 @@ held_where (s ∷ rs) (ids ∷ idss) r id c = elim (Contains-append_cases (ranke
   | inr more ↦ let h : IsIn rs idss r id = held_where rs idss r id more in record { i = suc h.i; inside = omega (arith, h.inside); rank = h.rank; held = h.held }
 ]
 
-pub held_none : (rs : List Rank) (idss : List (List ℕ)) → ((i : ℕ) → length (ids_at idss i) ≡ 0) → held_by rs idss ≡ []
+pub held_none : (rs : List Rank) (idss : List (List ℕ)) → ((i : ℕ) → length (bucket_ids idss i) ≡ 0) → held_by rs idss ≡ []
 held_none [] idss none = refl
 held_none (r ∷ rs) [] none = refl
 held_none (r ∷ rs) (ids ∷ idss) none = ap (λ js. ranked r js ++ held_by rs idss) (nil_from_length ids (none 0)) ∙ held_none rs idss (λ i. none (suc i))
@@ -131,11 +131,17 @@ some_id ids id c = let l : c.0 < length ids = c.1 in omega (arith, l)
 
 -- ---- an empty bucket more
 
-pub ids_more : (idss : List (List ℕ)) (i : ℕ) → ids_at (idss ++ [] ∷ []) i ≡ ids_at idss i
+pub ids_more : (idss : List (List ℕ)) (i : ℕ) → bucket_ids (idss ++ [] ∷ []) i ≡ bucket_ids idss i
 ids_more [] zero = refl
 ids_more [] (suc i) = refl
 ids_more (ids ∷ idss) zero = refl
 ids_more (ids ∷ idss) (suc i) = ids_more idss i
+
+pub need_more : (needs : List ℕ) (i : ℕ) → need_at (needs ++ 0 ∷ []) i ≡ need_at needs i
+need_more [] zero = refl
+need_more [] (suc i) = refl
+need_more (n ∷ needs) zero = refl
+need_more (n ∷ needs) (suc i) = need_more needs i
 
 pub held_same : (rs : List Rank) (idss : List (List ℕ)) (r : Rank) → length idss ≡ length rs → held_by (rs ++ r ∷ []) (idss ++ [] ∷ []) ≡ held_by rs idss
 held_same [] [] r many = refl
@@ -143,8 +149,8 @@ held_same [] (ids ∷ idss) r many = absurd (omega (arith, many))
 held_same (s ∷ rs) [] r many = absurd (omega (arith, many))
 held_same (s ∷ rs) (ids ∷ idss) r many = ap (λ l. ranked s ids ++ l) (held_same rs idss r (omega (arith, many)))
 
-pub ids_get : (bs : List Bucket) (i : ℕ) (b : Bucket) → i < length bs → ids_at (idss_in bs) i ≡ ids_of (get_or bs i b).ids
-ids_get bs i b inside = get_or-map (λ (c : Bucket). ids_of c.ids) bs i b [] inside
+pub ids_get : (bs : List Bucket) (i : ℕ) (b : Bucket) → i < length bs → bucket_ids (idss_in bs) i ≡ ids_in (get_or bs i b).ids
+ids_get bs i b inside = get_or-map (λ (c : Bucket). ids_in c.ids) bs i b [] inside
 
 -- ---- a bucket with other ids
 
@@ -155,18 +161,24 @@ module _ (bs : List Bucket) (i : ℕ) (b d : Bucket) (inside : i < length bs) (a
   pub nexts_same : d.next ≡ b.next → nexts_in (slice_set bs i d) ≡ nexts_in bs
   nexts_same same = map-set (λ (c : Bucket). c.next) bs i d ∙ ap (slice_set (nexts_in bs) i) (same ∙ ap (λ (c : Bucket). c.next) at ∙ sym (get_or-map (λ (c : Bucket). c.next) bs i b 0 inside)) ∙ set-get_or (nexts_in bs) i 0
 
-  pub idss_now : idss_in (slice_set bs i d) ≡ slice_set (idss_in bs) i (ids_of d.ids)
-  idss_now = map-set (λ (c : Bucket). ids_of c.ids) bs i d
+  pub idss_now : idss_in (slice_set bs i d) ≡ slice_set (idss_in bs) i (ids_in d.ids)
+  idss_now = map-set (λ (c : Bucket). ids_in c.ids) bs i d
 
-  pub ids_is : ids_at (idss_in bs) i ≡ ids_of b.ids
-  ids_is = get_or-map (λ (c : Bucket). ids_of c.ids) bs i b [] inside ∙ ap (λ (c : Bucket). ids_of c.ids) (sym at)
+  pub ids_is : bucket_ids (idss_in bs) i ≡ ids_in b.ids
+  ids_is = get_or-map (λ (c : Bucket). ids_in c.ids) bs i b [] inside ∙ ap (λ (c : Bucket). ids_in c.ids) (sym at)
 
-  pub idss_same : ids_of d.ids ≡ ids_of b.ids → idss_in (slice_set bs i d) ≡ idss_in bs
+  pub idss_same : ids_in d.ids ≡ ids_in b.ids → idss_in (slice_set bs i d) ≡ idss_in bs
   idss_same same = idss_now ∙ ap (slice_set (idss_in bs) i) (same ∙ sym ids_is) ∙ set-get_or (idss_in bs) i []
+
+pub needs_now : (bs : List Bucket) (i : ℕ) (d : Bucket) → needs_in (slice_set bs i d) ≡ slice_set (needs_in bs) i (need_of d.ids)
+needs_now bs i d = map-set (λ (c : Bucket). need_of c.ids) bs i d
+
+pub need_is : (bs : List Bucket) (i : ℕ) (b : Bucket) → i < length bs → b ≡ get_or bs i b → need_at (needs_in bs) i ≡ need_of b.ids
+need_is bs i b inside at = get_or-map (λ (c : Bucket). need_of c.ids) bs i b 0 inside ∙ ap (λ (c : Bucket). need_of c.ids) (sym at)
 
 -- ---- classes
 
-pub fits_agree : (c : Classes) (a b : Arena) → Fits c a → AgreeOnHeld c a b → Fits c b
+pub fits_agree : (c : Classes) (a b : Arena) → ClassesFit c a → AgreeOnRanks c a b → ClassesFit c b
 fits_agree c a b fits agree = record {
   vertices = agree.vertices ∙ fits.vertices;
   live = agree.live;
@@ -174,7 +186,7 @@ fits_agree c a b fits agree = record {
 }
 
 -- which ids are held when one more is
-pub pushed_held : (old new : Classes) (a : Arena) (id : ℕ) → IsPushed old new a id → (r : Rank) (q : ℕ) → IsHeld new r q ↔ (IsHeld old r q ⊎ ((r ≡ rank_of a id) × (q ≡ id)))
+pub pushed_held : (old new : Classes) (a : Arena) (id : ℕ) → IsPushed old new a id → (r : Rank) (q : ℕ) → IsHeldWithRank new r q ↔ (IsHeldWithRank old r q ⊎ ((r ≡ rank_of a id) × (q ≡ id)))
 pushed_held old new a id s r q = (
   λ h. elim (in_cons (rank_of a id, id) old.held (r, q) (Contains-permutation new.held ((rank_of a id, id) ∷ old.held) (r, q) (IsPermutation-sym ((rank_of a id, id) ∷ old.held) new.held s.held) h)) [
     | inl here ↦ inr (ap (λ (p : Rank × ℕ). p.0) (sym here), ap (λ (p : Rank × ℕ). p.1) (sym here))
@@ -186,7 +198,7 @@ pushed_held old new a id s r q = (
   ]),
 )
 
-pub pushed_fits : (old new : Classes) (a : Arena) (id : ℕ) → IsPushed old new a id → Fits old a → IsLive a id → Fits new a
+pub pushed_fits : (old new : Classes) (a : Arena) (id : ℕ) → IsPushed old new a id → ClassesFit old a → IsLive a id → ClassesFit new a
 pushed_fits old new a id s fits live = record {
   vertices = fits.vertices ∙ sym s.vertices;
   live = λ r q h. elim ((pushed_held old new a id s r q).0 h) [ inl was ↦ fits.live r q was | inr is ↦ subst (IsLive a) (sym is.1) live ];
@@ -194,19 +206,19 @@ pushed_fits old new a id s fits live = record {
 }
 
 -- what was held is in the class or is held
-pub popped_cases : (old new : Classes) (a : Arena) (rank : Rank) (winners : List ℕ) (s : IsPopped old new a rank winners) (r : Rank) (q : ℕ) → IsHeld old r q → ((rank ≡ r) × Contains s.class q) ⊎ IsHeld new r q
+pub popped_cases : (old new : Classes) (a : Arena) (rank : Rank) (winners : List ℕ) (s : IsPopped old new a rank winners) (r : Rank) (q : ℕ) → IsHeldWithRank old r q → ((rank ≡ r) × Contains s.class q) ⊎ IsHeldWithRank new r q
 popped_cases old new a rank winners s r q h = elim (Contains-append_cases (ranked rank s.class) new.held (r, q) (Contains-permutation old.held (ranked rank s.class ++ new.held) (r, q) s.held h)) [
   | inl here ↦ inl (in_ranked rank s.class r q here)
   | inr more ↦ inr more
 ]
 
-pub class_held : (old new : Classes) (a : Arena) (rank : Rank) (winners : List ℕ) (s : IsPopped old new a rank winners) (q : ℕ) → Contains s.class q → IsHeld old rank q
+pub class_held : (old new : Classes) (a : Arena) (rank : Rank) (winners : List ℕ) (s : IsPopped old new a rank winners) (q : ℕ) → Contains s.class q → IsHeldWithRank old rank q
 class_held old new a rank winners s q c = Contains-permutation (ranked rank s.class ++ new.held) old.held (rank, q) (IsPermutation-sym old.held (ranked rank s.class ++ new.held) s.held) (Contains-append_left (ranked rank s.class) new.held (rank, q) (to_ranked rank s.class q c))
 
-pub still_held : (old new : Classes) (a : Arena) (rank : Rank) (winners : List ℕ) (s : IsPopped old new a rank winners) (r : Rank) (q : ℕ) → IsHeld new r q → IsHeld old r q
+pub still_held : (old new : Classes) (a : Arena) (rank : Rank) (winners : List ℕ) (s : IsPopped old new a rank winners) (r : Rank) (q : ℕ) → IsHeldWithRank new r q → IsHeldWithRank old r q
 still_held old new a rank winners s r q h = Contains-permutation (ranked rank s.class ++ new.held) old.held (r, q) (IsPermutation-sym old.held (ranked rank s.class ++ new.held) s.held) (Contains-append_right (ranked rank s.class) new.held (r, q) h)
 
-pub popped_fits : (old new : Classes) (a : Arena) (rank : Rank) (winners : List ℕ) → IsPopped old new a rank winners → Fits old a → Fits new a
+pub popped_fits : (old new : Classes) (a : Arena) (rank : Rank) (winners : List ℕ) → IsPopped old new a rank winners → ClassesFit old a → ClassesFit new a
 popped_fits old new a rank winners s fits = record {
   vertices = fits.vertices ∙ sym s.vertices;
   live = λ r q h. fits.live r q (still_held old new a rank winners s r q h);

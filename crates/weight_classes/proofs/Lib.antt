@@ -1,8 +1,10 @@
 pub mod Winning
 pub mod Rows
+pub mod Ranks
 pub mod Chains
 pub mod Held
-pub mod Turns
+pub mod Sifts
+pub mod Waiting
 pub mod Holding
 pub mod Pops
 pub mod Fresh

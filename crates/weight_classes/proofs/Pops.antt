@@ -1,19 +1,20 @@
 -- For class_at: what taking the ids of a bucket gives.
-use Rattle.std.specs.Prelude.{◌≡◌, ◌≢◌, ℕ, ◌+◌, ◌*◌, ◌<◌, ◌≤◌, false, Bool, List, [], ◌++◌, length, slice_index_or, slice_set, replicate, refl, Contains}
-use Rattle.std.proofs.Common.{sym, ◌∙◌, ap, subst, arith, inl, inr}
-use Rattle.std.proofs.lemmas.Bool.{cases_lt, cases_eq, false≢true}
+use Rattle.std.specs.Prelude.{◌≡◌, ◌≢◌, ℕ, ◌+◌, ◌*◌, ◌<◌, false, Bool, List, [], ◌++◌, length, slice_index_or, slice_set, replicate, refl, Contains}
+use Rattle.std.proofs.Common.{sym, ◌∙◌, ap, subst, arith, inl, inr, get_or}
+use Rattle.std.proofs.lemmas.Bool.{cases_lt, false≢true}
 use Rattle.std.proofs.lemmas.List.{get_or-set_same, get_or-set_other, get_or-replicate, get_or_past, length-replicate, length-map}
 use Rattle.std.proofs.lemmas.List.Elements.{Contains-append_right}
 use Rattle.std.proofs.lemmas.List.Sorted.{IsPermutation-sym, Contains-permutation}
 use Rattle.path_arena.specs.Arena.{Arena, IsLive}
 use Rattle.weight_classes.specs.declared.buckets.Bucket.{Bucket}
-use Rattle.weight_classes.specs.Classes.{Classes, Rank, IsLower, Fits, first_of, last_of, SamePair, IsPopped, ranked}
-use Rattle.weight_classes.specs.Inside.{rank_in, ranks_in, idss_in, rank_at, ids_at, held_by, held_in, shown_by, Turn, AreTurns, AreRoomy, AreEmpty, IsIndexed, IsNext, IsQueue}
+use Rattle.weight_classes.specs.declared.ids.Ids.TheVariants.{Empty}
+use Rattle.weight_classes.specs.Classes.{Classes, Rank, IsLower, ClassesFit, first_of, last_of, SamePair, IsPopped, ranked}
+use Rattle.weight_classes.specs.Inside.{rank_in, ranks_in, idss_in, rank_at, bucket_ids, held_by, held_in, shown_by, AreRoomy, AreEmpty, IsIndexed, IsNextBucket}
 use Rattle.weight_classes.specs.Choice.{IsWonAt, pair_place, EndsAreVertices, IsChosen}
 use Rattle.weight_classes.proofs.Rows.{same_pair, in_order, place_below, one_place}
 use Rattle.weight_classes.proofs.Held.{same_rank, held_where, held_less, held_there, held_none, some_id, IsIn}
-use Rattle.weight_classes.proofs.Turns.{turns_taken}
-use Rattle.weight_classes.specs.Ids.{ids_of}
+use Rattle.weight_classes.proofs.Holding.{roomy_set}
+use Rattle.weight_classes.specs.Ids.{ids_in, need_of}
 
 lower_or_more : (r s : Rank) → r ≢ s → (IsLower s r → ⊥) → IsLower r s
 lower_or_more r s apart not_lower = elim (cases_lt r.weight s.weight) [
@@ -55,16 +56,16 @@ module _ (a : Arena) (rs : List Rank) (idss : List (List ℕ)) (at : ℕ) (won m
     (many : length idss ≡ length rs)
     (once : (i j : ℕ) → i < length rs → j < length rs → rank_at rs i ≡ rank_at rs j → i ≡ j)
     (inside : at < length rs)
-    (some : 0 < length (ids_at idss at))
-    (least : (j : ℕ) → j < length rs → 0 < length (ids_at idss j) → IsLower (rank_at rs j) (rank_at rs at) → ⊥)
-    (chosen : IsChosen a (Contains (ids_at idss at)) won marks winners last)
-    (ends : (q : ℕ) → Contains (ids_at idss at) q → EndsAreVertices a q)
+    (some : 0 < length (bucket_ids idss at))
+    (least : (j : ℕ) → j < length rs → 0 < length (bucket_ids idss j) → IsLower (rank_at rs j) (rank_at rs at) → ⊥)
+    (chosen : IsChosen a (Contains (bucket_ids idss at)) won marks winners last)
+    (ends : (q : ℕ) → Contains (bucket_ids idss at) q → EndsAreVertices a q)
     (pairs : length won ≡ a.vertices * a.vertices) where
   above : (r : Rank) (id : ℕ) → Contains (held_by rs (slice_set idss at [])) (r, id) → IsLower (rank_at rs at) r
   above r id c =
       let h : IsIn rs (slice_set idss at []) r id = held_where rs (slice_set idss at []) r id c in
-      let apart : h.i ≢ at = λ same. let l : 0 < length (ids_at (slice_set idss at []) h.i) = some_id (ids_at (slice_set idss at []) h.i) id h.held in omega (arith, l, ap length (ap (ids_at (slice_set idss at [])) same ∙ get_or-set_same idss at [] [] (omega (arith, inside, many)))) in
-      let there : 0 < length (ids_at idss h.i) = omega (arith, some_id (ids_at (slice_set idss at []) h.i) id h.held, ap length (get_or-set_other idss at h.i [] [] apart)) in
+      let apart : h.i ≢ at = λ same. let l : 0 < length (bucket_ids (slice_set idss at []) h.i) = some_id (bucket_ids (slice_set idss at []) h.i) id h.held in omega (arith, l, ap length (ap (bucket_ids (slice_set idss at [])) same ∙ get_or-set_same idss at [] [] (omega (arith, inside, many)))) in
+      let there : 0 < length (bucket_ids idss h.i) = omega (arith, some_id (bucket_ids (slice_set idss at []) h.i) id h.held, ap length (get_or-set_other idss at h.i [] [] apart)) in
       subst (IsLower (rank_at rs at)) h.rank (lower_or_more (rank_at rs at) (rank_at rs h.i) (λ same. apart (sym (once at h.i inside h.inside same))) (least h.i h.inside there))
 
   place_same : (q w : ℕ) → SamePair a q w → pair_place a q ≡ pair_place a w
@@ -72,7 +73,7 @@ module _ (a : Arena) (rs : List Rank) (idss : List (List ℕ)) (at : ℕ) (won m
 
   pub popped : IsPopped (record { vertices = a.vertices; held = held_by rs idss; won = won }) (record { vertices = a.vertices; held = held_by rs (slice_set idss at []); won = marks }) a (rank_at rs at) winners
   popped = record {
-    class = ids_at idss at;
+    class = bucket_ids idss at;
     some = some;
     held = held_less rs idss at inside many;
     above = above;
@@ -108,11 +109,11 @@ module _ (a : Arena) (rs : List Rank) (idss : List (List ℕ)) (at : ℕ) (won m
 pub none_held : (h : Classes) (n : ℕ) (bs : List Bucket) (won : List Bool) → ◌≡◌ {A = Classes} (shown_by n bs won) h → AreEmpty bs → h.held ≡ []
 none_held h n bs won is none = sym (ap (λ (c : Classes). c.held) is) ∙ held_none (ranks_in bs) (idss_in bs) none
 
-module _ (a : Arena) (n : ℕ) (bs : List Bucket) (won : List Bool) (fits : Fits (shown_by n bs won) a) where
+module _ (a : Arena) (n : ℕ) (bs : List Bucket) (won : List Bool) (fits : ClassesFit (shown_by n bs won) a) where
   as_many : length (idss_in bs) ≡ length (ranks_in bs)
-  as_many = length-map bs (λ (c : Bucket). ids_of c.ids) ∙ sym (length-map bs rank_in)
+  as_many = length-map bs (λ (c : Bucket). ids_in c.ids) ∙ sym (length-map bs rank_in)
 
-  module _ (at : ℕ) (inside : at < length bs) (ids : List ℕ) (are : ids ≡ ids_at (idss_in bs) at) where
+  module _ (at : ℕ) (inside : at < length bs) (ids : List ℕ) (are : ids ≡ bucket_ids (idss_in bs) at) where
     at_in : at < length (ranks_in bs)
     at_in = omega (arith, inside, length-map bs rank_in)
 
@@ -127,19 +128,19 @@ module _ (a : Arena) (n : ℕ) (bs : List Bucket) (won : List Bool) (fits : Fits
       still_there : (r : Rank) (q : ℕ) → Contains (held_in after) (r, q) → Contains (held_in bs) (r, q)
       still_there r q c =
           let r_at : Rank = rank_at (ranks_in bs) at in
-          let class : List (Rank × ℕ) = ranked r_at (ids_at (idss_in bs) at) in
+          let class : List (Rank × ℕ) = ranked r_at (bucket_ids (idss_in bs) at) in
           let rest : List (Rank × ℕ) = held_by (ranks_in bs) (slice_set (idss_in bs) at []) in
           Contains-permutation (class ++ rest) (held_in bs) (r, q) (IsPermutation-sym (held_in bs) (class ++ rest) (held_less (ranks_in bs) (idss_in bs) at at_in as_many))
           (Contains-append_right class rest (r, q) (subst (λ (hs : List (Rank × ℕ)). Contains hs (r, q)) held_after c))
 
-      pub fits_after : (marks : List Bool) → Fits (shown_by n after marks) a
+      pub fits_after : (marks : List Bool) → ClassesFit (shown_by n after marks) a
       fits_after marks = record {
         vertices = fits.vertices;
         live = λ r q c. fits.live r q (still_there r q c);
         ranks = λ r q c. fits.ranks r q (still_there r q c);
       }
 
-      pub popped_at : (r : Rank) → rank_at (ranks_in bs) at ≡ r → (marks : List Bool) (winners : List ℕ) (last : ℕ) → IsChosen a (Contains ids) won marks winners last → ((q : ℕ) → Contains ids q → EndsAreVertices a q) → length won ≡ n * n → (heads : List ℕ) → IsIndexed heads bs → IsNext bs at → IsPopped (shown_by n bs won) (shown_by n after marks) a r winners
+      pub popped_at : (r : Rank) → rank_at (ranks_in bs) at ≡ r → (marks : List Bool) (winners : List ℕ) (last : ℕ) → IsChosen a (Contains ids) won marks winners last → ((q : ℕ) → Contains ids q → EndsAreVertices a q) → length won ≡ n * n → (heads : List ℕ) → IsIndexed heads bs → IsNextBucket bs at → IsPopped (shown_by n bs won) (shown_by n after marks) a r winners
       popped_at r rank marks winners last chosen ends pairs heads indexed next =
           let count : a.vertices ≡ n = fits.vertices in
           let rs : List Rank = ranks_in bs in
@@ -153,15 +154,6 @@ module _ (a : Arena) (n : ℕ) (bs : List Bucket) (won : List Bool) (fits : Fits
           (subst (λ (hs : List (Rank × ℕ)). IsPopped (shown_by n bs won) (record { vertices = n; held = hs; won = marks }) a (rank_at rs at) winners) (sym held_after)
           (subst (λ (k : ℕ). IsPopped (record { vertices = k; held = held_in bs; won = won }) (record { vertices = k; held = held_by rs (slice_set (idss_in bs) at []); won = marks }) a (rank_at rs at) winners) count taken))
 
--- a bucket that was taken needs no turn, and no room
-module _ (bs after : List Bucket) (at : ℕ) (inside : at < length bs) (ranks : ranks_in after ≡ ranks_in bs) (idss : idss_in after ≡ slice_set (idss_in bs) at []) where
-  pub queue_taken : (turns : List Turn) → IsQueue turns bs → IsQueue turns after
-  queue_taken turns s =
-      subst (λ (rs : List Rank). AreTurns turns rs (idss_in after)) (sym ranks)
-      (subst (λ (js : List (List ℕ)). AreTurns turns (ranks_in bs) js) (sym idss) (turns_taken turns (ranks_in bs) (idss_in bs) at s (omega (arith, inside, length-map bs rank_in))))
-
-  pub roomy_taken : (most : ℕ) → AreRoomy most bs → AreRoomy most after
-  roomy_taken most room i = elim (cases_eq i at) [
-    | inl here ↦ omega (arith, ap length (ap (λ (js : List (List ℕ)). ids_at js i) idss ∙ ap (ids_at (slice_set (idss_in bs) at [])) here ∙ get_or-set_same (idss_in bs) at [] [] (omega (arith, inside, length-map bs (λ (c : Bucket). ids_of c.ids)))))
-    | inr apart ↦ omega (arith, room i, ap length (ap (λ (js : List (List ℕ)). ids_at js i) idss ∙ get_or-set_other (idss_in bs) at i [] [] apart))
-  ]
+-- what is taken from a bucket needs no room
+pub roomy_taken : (bs : List Bucket) (at : ℕ) (b d : Bucket) → at < length bs → b ≡ get_or bs at b → d.ids ≡ Empty → (most : ℕ) → AreRoomy most bs → AreRoomy most (slice_set bs at d)
+roomy_taken bs at b d inside here none most room = roomy_set bs at b d inside here most most room (omega arith) (omega (arith, ap need_of none))

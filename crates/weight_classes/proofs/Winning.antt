@@ -13,12 +13,15 @@ use Rattle.std.specs.List.Sorted.{IsPermutation, IsNonDecreasingBy}
 use Rattle.std.proofs.lemmas.List.Elements.{Contains-append_left, Contains-append_right, Contains-push, Contains-push_cases, Contains-get_or}
 use Rattle.apsp_model.specs.Walk.{hops_of}
 use Rattle.apsp_model.proofs.Members.{in_cons as contains_cons}
-use Rattle.path_arena.specs.Arena.{Arena, weight_of, list_of, id_cmp}
+use Rattle.path_arena.specs.Arena.{Arena, weight_of_id, list_of, id_cmp}
 use Rattle.weight_classes.specs.declared.choice.Key.{Key}
-use Rattle.weight_classes.specs.Choice.{IsWonAt, pair_place, key_of, EndsAreVertices, AreKeys, GivesWay, IsConsidered, AreRising, IsChosen}
+use Rattle.weight_classes.specs.Choice.{IsWonAt, pair_place, key_of, EndsAreVertices, AreKeys, GivesWay, Choosing, IsConsidered, AreRising, IsChosen}
+
+abbrev pub so_far : List ℕ → List Bool → ℕ → Choosing
+so_far winners won last = record { winners = winners; won = won; last = last }
 
 id_cmp_total : (a : Arena) → IsTotalOrder (id_cmp a)
-id_cmp_total a = then_total (on_total (weight_of a) nat_cmp_total) (then_total (on_total (λ id. hops_of (list_of a id)) nat_cmp_total) (on_total (list_of a) nat_list_cmp_total))
+id_cmp_total a = then_total (on_total (weight_of_id a) nat_cmp_total) (then_total (on_total (λ id. hops_of (list_of a id)) nat_cmp_total) (on_total (list_of a) nat_list_cmp_total))
 
 not_below_itself : (a : Arena) (p : ℕ) → id_cmp a p p ≡ Less → ⊥
 not_below_itself a p h = let e : id_cmp a p p ≡ Equal = tied_itself (id_cmp_total a) p in cc
@@ -206,11 +209,11 @@ module _ (a : Arena) (Seen : ℕ → Type 0) (rounds marks : List Bool) (winners
           | inr itself ↦ (id, Contains-push front id, sym same ∙ ap (pair_place a) itself ∙ at)
         ]
 
-  pub chosen_more : (key : Key) (later : List ℕ) (rounds_after : List Bool) (result : ℕ) → key ≡ key_of a id → IsConsidered a key last winners marks later rounds_after result → IsChosen a More rounds rounds_after later result
+  pub chosen_more : (key : Key) (later : List ℕ) (rounds_after : List Bool) (result : ℕ) → key ≡ key_of a id → IsConsidered a key (so_far winners marks last) (so_far later rounds_after result) → IsChosen a More rounds rounds_after later result
   chosen_more key later rounds_after result is considered =
-      go later rounds_after result (subst (λ (k : Key). IsConsidered a k last winners marks later rounds_after result) is considered)
+      go later rounds_after result (subst (λ (k : Key). IsConsidered a k (so_far winners marks last) (so_far later rounds_after result)) is considered)
     where
-      go : (later : List ℕ) (rounds_after : List Bool) (result : ℕ) → IsConsidered a (key_of a id) last winners marks later rounds_after result → IsChosen a More rounds rounds_after later result
+      go : (later : List ℕ) (rounds_after : List Bool) (result : ℕ) → IsConsidered a (key_of a id) (so_far winners marks last) (so_far later rounds_after result) → IsChosen a More rounds rounds_after later result
       go later rounds_after result h = elim h [
         | inl new ↦ subst (λ r. IsChosen a More rounds rounds_after later r) (sym new.3) (subst (λ m. IsChosen a More rounds m later (pair_place a id)) (sym new.2) (subst (λ l. IsChosen a More rounds (slice_set marks (pair_place a id) true) l (pair_place a id)) (sym new.1) (wins new.0)))
         | inr old ↦ subst (λ r. IsChosen a More rounds rounds_after later r) (sym old.2) (subst (λ m. IsChosen a More rounds m later last) (sym old.1) (elim old.3 [
@@ -364,7 +367,7 @@ one_in ids id one at = subst (λ js. Contains js id) (sym (one_is ids id one at)
 pub one_only : (ids : List ℕ) (id q : ℕ) → length ids ≡ 1 → id ≡ get_or ids 0 id → Contains ids q → q ≡ id
 one_only ids id q one at c = elim (contains_cons q id [] (subst (λ js. Contains js q) (one_is ids id one at) c)) [ inl same ↦ sym same | inr more ↦ absurd (let l : more.0 < 0 = more.1 in omega (arith, l)) ]
 
-pub chosen_one : (a : Arena) (ids : List ℕ) (won marks : List Bool) (winners later : List ℕ) (last result id : ℕ) (key : Key) → length ids ≡ 1 → id ≡ get_or ids 0 id → winners ≡ [] → last ≡ length won → pair_place a id < length won → key ≡ key_of a id → IsConsidered a key last winners won later marks result → IsChosen a (Contains ids) won marks later result
+pub chosen_one : (a : Arena) (ids : List ℕ) (won marks : List Bool) (winners later : List ℕ) (last result id : ℕ) (key : Key) → length ids ≡ 1 → id ≡ get_or ids 0 id → winners ≡ [] → last ≡ length won → pair_place a id < length won → key ≡ key_of a id → IsConsidered a key (so_far winners won last) (so_far later marks result) → IsChosen a (Contains ids) won marks later result
 chosen_one a ids won marks winners later last result id key one at none end inside is considered =
     let begun : IsChosen a (λ q. ⊥) won won winners last = subst (λ (ws : List ℕ). IsChosen a (λ q. ⊥) won won ws last) (sym none) (subst (λ l. IsChosen a (λ q. ⊥) won won [] l) (sym end) (chosen_none a (λ q. ⊥) won (λ q s. s))) in
     chosen_same a (λ q. ⊥ ⊎ (q ≡ id)) (Contains ids) won marks later result (λ q. (

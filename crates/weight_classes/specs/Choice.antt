@@ -36,13 +36,20 @@ pub record GivesWay (a : Arena) (id : ℕ) (old new : List ℕ) : Type 0 where
 abbrev pub IsWonAt : List Bool → ℕ → Type 0
 IsWonAt won k = slice_index_or won k false ≡ true
 
+-- the winners so far, the marks of the won pairs, and the place of the last winner
+pub record Choosing : Type 0 where
+  pub winners : List ℕ
+  pub won : List Bool
+  pub last : ℕ
+
 -- a key is taken into account: its pair is won now, or it was, by the last winner or before
-abbrev pub IsConsidered : Arena → Key → ℕ → List ℕ → List Bool → List ℕ → List Bool → ℕ → Type 0
-IsConsidered a key last winners won later marks result =
-    ((IsWonAt won key.place → ⊥) × (later ≡ winners ++ key.id ∷ []) × (marks ≡ slice_set won key.place true)
-    × (result ≡ key.place))
-    ⊎ (IsWonAt won key.place × (marks ≡ won) × (result ≡ last)
-    × (((last ≢ key.place) × (later ≡ winners)) ⊎ ((last ≡ key.place) × GivesWay a key.id winners later)))
+abbrev pub IsConsidered : Arena → Key → Choosing → Choosing → Type 0
+IsConsidered a key old new =
+    ((IsWonAt old.won key.place → ⊥) × (new.winners ≡ old.winners ++ key.id ∷ [])
+    × (new.won ≡ slice_set old.won key.place true) × (new.last ≡ key.place))
+    ⊎ (IsWonAt old.won key.place × (new.won ≡ old.won) × (new.last ≡ old.last)
+    × (((old.last ≢ key.place) × (new.winners ≡ old.winners))
+    ⊎ ((old.last ≡ key.place) × GivesWay a key.id old.winners new.winners)))
 
 -- each place stands before those that follow
 abbrev pub AreRising : Arena → List ℕ → Type 0

@@ -6,7 +6,7 @@ use Rattle.std.specs.declared.cmp.Ordering.{Ordering}
 use Rattle.std.specs.declared.cmp.Ordering.TheVariants.{Less}
 use Rattle.std.specs.Coded.{Coded, code_by, coded×, coded_ℕ, coded_list, coded_bool}
 use Rattle.apsp_model.specs.Walk.{first, last, hops_of}
-use Rattle.path_arena.specs.Arena.{Arena, IsLive, list_of, weight_of, id_cmp}
+use Rattle.path_arena.specs.Arena.{Arena, IsLive, list_of, weight_of_id, id_cmp}
 
 -- classes go by weight, and then by the number of edges
 pub record Rank : Type 0 where
@@ -37,8 +37,8 @@ abbrev pub IsWon : Classes → ℕ → ℕ → Type 0
 IsWon c x y = slice_index_or c.won (x * c.vertices + y) false ≡ true
 
 -- the id is held with this rank
-abbrev pub IsHeld : Classes → Rank → ℕ → Type 0
-IsHeld c r id = Contains c.held (r, id)
+abbrev pub IsHeldWithRank : Classes → Rank → ℕ → Type 0
+IsHeldWithRank c r id = Contains c.held (r, id)
 
 abbrev pub first_of : Arena → ℕ → ℕ
 first_of a id = unwrap_or (first (list_of a id)) 0
@@ -50,17 +50,17 @@ abbrev pub SamePair : Arena → ℕ → ℕ → Type 0
 SamePair a p q = (first_of a p ≡ first_of a q) × (last_of a p ≡ last_of a q)
 
 -- by first vertex, then by last vertex
-abbrev pub pair_cmp : Arena → ℕ → ℕ → Ordering
-pair_cmp a p q = ordering_then (nat_cmp (first_of a p) (first_of a q)) (nat_cmp (last_of a p) (last_of a q))
+abbrev pub ends_cmp : Arena → ℕ → ℕ → Ordering
+ends_cmp a p q = ordering_then (nat_cmp (first_of a p) (first_of a q)) (nat_cmp (last_of a p) (last_of a q))
 
 abbrev pub rank_of : Arena → ℕ → Rank
-rank_of a id = record { weight = weight_of a id; hops = hops_of (list_of a id) }
+rank_of a id = record { weight = weight_of_id a id; hops = hops_of (list_of a id) }
 
 -- the arena has as many vertices, each held id is live in it, and its rank is what the arena gives for it
-pub record Fits (c : Classes) (a : Arena) : Type 0 where
+pub record ClassesFit (c : Classes) (a : Arena) : Type 0 where
   pub vertices : a.vertices ≡ c.vertices
-  pub live : (r : Rank) (id : ℕ) → IsHeld c r id → IsLive a id
-  pub ranks : (r : Rank) (id : ℕ) → IsHeld c r id → rank_of a id ≡ r
+  pub live : (r : Rank) (id : ℕ) → IsHeldWithRank c r id → IsLive a id
+  pub ranks : (r : Rank) (id : ℕ) → IsHeldWithRank c r id → rank_of a id ≡ r
 
 -- a class that was taken: its rank, and its winners
 pub record Taken : Type 0 where
@@ -76,7 +76,7 @@ pub record IsPushed (old new : Classes) (a : Arena) (id : ℕ) : Type 0 where
 -- each stands before all that follow it
 abbrev pub InOrder : Arena → List ℕ → Type 0
 InOrder a [] = ⊤
-InOrder a (id ∷ ids) = ((q : ℕ) → Contains ids q → pair_cmp a id q ≡ Less) × InOrder a ids
+InOrder a (id ∷ ids) = ((q : ℕ) → Contains ids q → ends_cmp a id q ≡ Less) × InOrder a ids
 
 -- of each pair among the taken ids that was not won, the winner is one that none of them is below
 pub record IsWinners (a : Arena) (won : ℕ → ℕ → Type 0) (Taken : ℕ → Type 0) (winners : List ℕ) : Type 0 where
@@ -96,14 +96,14 @@ pub record IsPopped (old new : Classes) (a : Arena) (rank : Rank) (winners : Lis
   pub class : List ℕ
   pub some : 0 < length class
   pub held : IsPermutation old.held (ranked rank class ++ new.held)
-  pub above : (r : Rank) (id : ℕ) → IsHeld new r id → IsLower rank r
+  pub above : (r : Rank) (id : ℕ) → IsHeldWithRank new r id → IsLower rank r
   pub are_winners : IsWinners a (IsWon old) (Contains class) winners
   pub vertices : new.vertices ≡ old.vertices
   pub won : (x y : ℕ) → x < old.vertices → y < old.vertices → IsWon new x y
       ↔ (IsWon old x y ⊎ ((w : ℕ) × Contains winners w × (first_of a w ≡ x) × (last_of a w ≡ y)))
 
 -- the two arenas have as many vertices, and each held id is live in the second with the rank that it has in the first
-pub record AgreeOnHeld (c : Classes) (a b : Arena) : Type 0 where
+pub record AgreeOnRanks (c : Classes) (a b : Arena) : Type 0 where
   pub vertices : b.vertices ≡ a.vertices
-  pub live : (r : Rank) (id : ℕ) → IsHeld c r id → IsLive b id
-  pub ranks : (r : Rank) (id : ℕ) → IsHeld c r id → rank_of b id ≡ rank_of a id
+  pub live : (r : Rank) (id : ℕ) → IsHeldWithRank c r id → IsLive b id
+  pub ranks : (r : Rank) (id : ℕ) → IsHeldWithRank c r id → rank_of b id ≡ rank_of a id

@@ -1,16 +1,15 @@
 //! The ids of each weight and number of edges, and which of them come next.
 
-ghost use Rattle.std.specs.Prelude.{◌≡◌, ◌≢◌, ℕ, List, ◌+◌, ◌<◌, ◌≤◌, [], ◌∷◌, ◌++◌, IfOk, IfSome, IfNone, OnOk, OnErr, MatchOption, length, vec_capacity, map, slice_set};
-ghost use Rattle.std.specs.BinaryHeap.{heap_items};
-ghost use Rattle.weight_classes.specs.Ids.{ids_of};
-ghost use Rattle.weight_classes.specs.Inside.{AreEmpty, AreRoomy, IsIndexed, IsNext, IsQueue, IsBucketAdded, Turn, cell_of, idss_in, ids_at, rank_at, ranks_in};
+ghost use Rattle.std.specs.Prelude.{◌≡◌, ◌≢◌, ℕ, List, ◌+◌, ◌<◌, ◌≤◌, [], ◌∷◌, ◌++◌, IfOk, IfSome, IfNone, OnOk, OnErr, length, vec_capacity, map, slice_set};
+ghost use Rattle.apsp_model.specs.declared.TheConstants.{MOST_VERTICES};
+ghost use Rattle.weight_classes.specs.Ids.{ids_in, need_of};
+ghost use Rattle.weight_classes.specs.Inside.{AreEmpty, AreRoomy, AreTurns, IsIndexed, IsNextBucket, IsQueue, IsBucketAdded, cell_of, idss_in, bucket_ids, key_of, need_at, needs_in, rank_at, ranks_in};
 
 use crate::choice::Key;
 use crate::ids::Ids;
+use crate::turns::{Turn, insert, take_first};
 use apsp_model::Memory;
 use path_arena::PathId;
-use std::cmp::Reverse;
-use std::collections::BinaryHeap;
 
 /// The held ids of one weight and number of edges. Once they are taken there are none, and the
 /// bucket stays until the restart.
@@ -22,9 +21,6 @@ pub(crate) struct Bucket {
     next: u32,
     pub(crate) ids: Ids,
 }
-
-/// Weight, number of edges and bucket, the least of which comes first.
-pub(crate) type Queue = BinaryHeap<Reverse<(u64, u32, u32)>>;
 
 /// Stands for the bucket where there is none.
 pub(crate) const NO_BUCKET: u32 = u32::MAX;
@@ -67,7 +63,8 @@ pub(crate) fn bucket_of(
     weight: u64,
     hops: u32,
 ) -> Result<u32, Memory>
-    requires { IsIndexed heads.old.items buckets.old.items }
+    requires indexed { IsIndexed heads.old.items buckets.old.items }
+    requires few { hops < MOST_VERTICES }
     ensures bucket { IfOk result
         (λ i. (i < length buckets.new.items) × (rank_at (ranks_in buckets.new.items) i
         ≡ record { weight = weight; hops = hops })) }
@@ -93,43 +90,43 @@ pub(crate) fn bucket_of(
     Ok(len as u32)
 }
 
-/// Puts an id into a bucket, and makes room for the keys of its ids.
+/// Puts an id into a bucket. The first one gives the bucket its turn, further ones make room for keys.
 pub(crate) fn hold(
     buckets: &mut Vec<Bucket>,
-    queue: &mut Queue,
+    turns: &mut Vec<Turn>,
     keys: &mut Vec<Key>,
     at: u32,
+    key: u64,
     id: PathId,
 ) -> Result<(), Memory>
     requires inside { at < length buckets.old.items }
-    requires queue { IsQueue (heap_items queue.old) buckets.old.items }
+    requires key { key ≡ key_of (rank_at (ranks_in buckets.old.items) at) }
+    requires queue { IsQueue turns.old.items buckets.old.items }
     requires room { AreRoomy (vec_capacity keys.old) buckets.old.items }
     ensures ranks { ranks_in buckets.new.items ≡ ranks_in buckets.old.items }
     ensures same { (heads : List ℕ) → IsIndexed heads buckets.old.items → IsIndexed heads buckets.new.items }
     ensures ok { OnOk result
-        (idss_in buckets.new.items ≡ slice_set (idss_in buckets.old.items) at (ids_at (idss_in buckets.old.items) at
+        (idss_in buckets.new.items ≡ slice_set (idss_in buckets.old.items) at (bucket_ids (idss_in buckets.old.items) at
         ++ id ∷ [])) }
     ensures err { OnErr result (idss_in buckets.new.items ≡ idss_in buckets.old.items) }
-    ensures queue { IsQueue (heap_items queue.new) buckets.new.items }
+    ensures queue { IsQueue turns.new.items buckets.new.items }
     ensures room { AreRoomy (vec_capacity keys.new) buckets.new.items }
 {
     let bucket = &mut buckets[at as usize];
-    queue.reserve(1).map_err(|_| Memory)?;
-    let waits = !bucket.ids.is_empty();
-    put(&mut bucket.ids, keys, id)?;
-    if !waits {
-        // There is room, so it takes none.
-        let _ = queue.push(Reverse((bucket.weight, bucket.hops, at)));
+    if !bucket.ids.is_empty() {
+        return put(&mut bucket.ids, keys, id);
     }
+    insert(turns, Turn { key, bucket: at })?;
+    bucket.ids = Ids::One(id);
     Ok(())
 }
 
 /// Puts an id behind the others of a bucket, and makes room for their keys.
 fn put(ids: &mut Ids, keys: &mut Vec<Key>, id: PathId) -> Result<(), Memory>
-    requires { length (ids_of ids.old) ≤ vec_capacity keys.old }
-    ensures ok { OnOk result (ids_of ids.new ≡ ids_of ids.old ++ id ∷ []) }
+    requires { need_of ids.old ≤ vec_capacity keys.old }
+    ensures ok { OnOk result (ids_in ids.new ≡ ids_in ids.old ++ id ∷ []) }
     ensures err { OnErr result (ids.new ≡ ids.old) }
-    ensures room { length (ids_of ids.new) ≤ vec_capacity keys.new }
+    ensures room { need_of ids.new ≤ vec_capacity keys.new }
     ensures capacity { vec_capacity keys.old ≤ vec_capacity keys.new }
 {
     keys.clear();
@@ -137,31 +134,34 @@ fn put(ids: &mut Ids, keys: &mut Vec<Key>, id: PathId) -> Result<(), Memory>
     ids.push(*keys.allocator(), id)
 }
 
-/// The bucket of the least weight that has the fewest edges among those that hold an id. Its turn stays until it
-/// holds none, and is dropped by the call behind that.
-pub(crate) fn next(queue: &mut Queue, buckets: &[Bucket]) -> Option<u32>
-    requires { IsQueue (heap_items queue.old) buckets.now }
-    ensures some { IfSome result (IsNext buckets.now) }
+/// The bucket of the least weight that has the fewest edges among those that hold an id. Its turn is over, and so
+/// are those of the empty buckets before it.
+#[inline(always)]
+pub(crate) fn next(turns: &mut Vec<Turn>, buckets: &[Bucket]) -> Option<u32>
+    requires { IsQueue turns.old.items buckets.now }
+    ensures some { IfSome result (IsNextBucket buckets.now) }
     ensures none { IfNone result (AreEmpty buckets.now) }
-    ensures queue { IsQueue (heap_items queue.new) buckets.now }
+    ensures queue { IfNone result (IsQueue turns.new.items buckets.now) }
+    ensures others { IfSome result
+        (λ at. AreTurns turns.new.items (ranks_in buckets.now) (slice_set (idss_in buckets.now) at [])) }
 {
-    'turns: while let Some(&Reverse((_, _, at))) = queue.peek() {
-        if !buckets[at as usize].ids.is_empty() {
-            return Some(at);
+    'turns: while let Some(turn) = take_first(turns) {
+        if !buckets[turn.bucket as usize].ids.is_empty() {
+            return Some(turn.bucket);
         }
-        let _ = queue.pop();
     }
     None
 }
 
-/// Takes the ids of a bucket. It may keep its turn.
+/// Takes the ids of a bucket.
+#[inline(always)]
 pub(crate) fn take(buckets: &mut Vec<Bucket>, at: u32) -> Ids
     requires { at < length buckets.old.items }
-    ensures ids { ids_of result ≡ ids_at (idss_in buckets.old.items) at }
+    ensures ids { ids_in result ≡ bucket_ids (idss_in buckets.old.items) at }
+    ensures need { need_of result ≡ need_at (needs_in buckets.old.items) at }
     ensures ranks { ranks_in buckets.new.items ≡ ranks_in buckets.old.items }
     ensures idss { idss_in buckets.new.items ≡ slice_set (idss_in buckets.old.items) at [] }
     ensures same { (heads : List ℕ) → IsIndexed heads buckets.old.items → IsIndexed heads buckets.new.items }
-    ensures queue { (turns : List Turn) → IsQueue turns buckets.old.items → IsQueue turns buckets.new.items }
     ensures room { (most : ℕ) → AreRoomy most buckets.old.items → AreRoomy most buckets.new.items }
 {
     std::mem::replace(&mut buckets[at as usize].ids, Ids::Empty)

@@ -3,7 +3,7 @@
 ghost use Rattle.std.specs.Prelude.{◌≡◌, ℕ, ◌∷◌, [], ◌+◌, ◌*◌, ◌<◌, ◌≤◌, ◌^◌, length, vec_len, vec_capacity, Contains};
 ghost use Rattle.path_arena.specs.Arena.{IsLive};
 ghost use Rattle.smallvec.specs.SmallVec.{small_vec_len, HasRoomFor};
-ghost use Rattle.weight_classes.specs.Ids.{ids_of};
+ghost use Rattle.weight_classes.specs.Ids.{ids_in, need_of};
 ghost use Rattle.weight_classes.specs.Choice.{AreKeys, IsChosen, EndsAreVertices, IsConsidered, key_of};
 
 use crate::ids::{Ids, List};
@@ -54,12 +54,12 @@ pub(crate) fn winners(
     ids: Ids,
 ) -> Ids
     requires vertices { arena.now.vertices ≡ n }
-    requires live { (q : ℕ) → Contains (ids_of ids) q → IsLive arena.now q }
-    requires room { length (ids_of ids) ≤ vec_capacity keys.old }
+    requires live { (q : ℕ) → Contains (ids_in ids) q → IsLive arena.now q }
+    requires room { need_of ids ≤ vec_capacity keys.old }
     requires pairs { vec_len won.old ≡ arena.now.vertices * arena.now.vertices }
     ensures chosen { (last : ℕ)
-        × IsChosen arena.now (Contains (ids_of ids)) won.old.items won.new.items (ids_of result) last }
-    ensures ends { (q : ℕ) → Contains (ids_of ids) q → EndsAreVertices arena.now q }
+        × IsChosen arena.now (Contains (ids_in ids)) won.old.items won.new.items (ids_in result) last }
+    ensures ends { (q : ℕ) → Contains (ids_in ids) q → EndsAreVertices arena.now q }
     ensures capacity { vec_capacity keys.old ≤ vec_capacity keys.new }
 {
     match ids {
@@ -78,7 +78,7 @@ fn only(won: &mut Vec<bool>, arena: &Arena, n: u32, id: PathId) -> Ids
     requires live { IsLive arena.now id }
     requires pairs { vec_len won.old ≡ arena.now.vertices * arena.now.vertices }
     ensures chosen { (last : ℕ)
-        × IsChosen arena.now (Contains (id ∷ [])) won.old.items won.new.items (ids_of result) last }
+        × IsChosen arena.now (Contains (id ∷ [])) won.old.items won.new.items (ids_in result) last }
     ensures ends { EndsAreVertices arena.now id }
 {
     let key = make_key(arena, n, id);
@@ -114,7 +114,9 @@ fn consider(winners: &mut List, won: &mut Vec<bool>, last: usize, arena: &Arena,
     requires all_live { (q : ℕ) → Contains winners.old.items q → IsLive arena.now q }
     requires some { last ≡ key.place → 0 < small_vec_len winners.old }
     requires room { HasRoomFor winners.old 1 }
-    ensures considered { IsConsidered arena.now key last winners.old.items won.old.items winners.new.items won.new.items result }
+    ensures considered { IsConsidered arena.now key
+        (record { winners = winners.old.items; won = won.old.items; last = last })
+        (record { winners = winners.new.items; won = won.new.items; last = result }) }
     ensures capacity { winners.new.capacity ≡ winners.old.capacity }
     ensures len { small_vec_len winners.new ≤ small_vec_len winners.old + 1 }
 {

@@ -1,18 +1,18 @@
 //! The held ids by weight and number of edges.
 
-ghost use Rattle.std.specs.Prelude.{replicate, false, ◌≡◌, ◌≢◌, ℕ, ◌+◌, ◌*◌, ◌<◌, ◌≤◌, ◌⊎◌, ◌↔◌, [], IfOk, OnOk, OnErr, MatchOption, IfNone, List, Contains, length, vec_len, vec_capacity, slice_index, ◌∷◌, ◌++◌};
+ghost use Rattle.std.specs.Prelude.{replicate, false, ◌≡◌, ◌≢◌, ℕ, ◌+◌, ◌*◌, ◌<◌, ◌≤◌, ◌⊎◌, ◌↔◌, [], IfOk, OnOk, OnErr, MatchOption, IfNone, List, Contains, length, vec_len, vec_capacity, slice_index, slice_set, ◌∷◌, ◌++◌};
 ghost use Rattle.path_arena.specs.Arena.{Arena as Paths, IsLive};
-ghost use Rattle.weight_classes.specs.Classes.{Fits, IsHeld, IsPopped, IsPushed, IsWon, Rank};
-ghost use Rattle.weight_classes.specs.Inside.{AreRoomy, IsIndexed, IsNext, IsQueue, Turn, shown_by};
+ghost use Rattle.weight_classes.specs.Classes.{ClassesFit, IsHeldWithRank, IsPopped, IsPushed, IsWon, Rank};
+ghost use Rattle.weight_classes.specs.Inside.{AreRoomy, AreTurns, IsIndexed, IsNextBucket, IsQueue, idss_in, ranks_in, shown_by};
 ghost use Rattle.weight_classes.specs.declared.buckets.TheConstants.{NO_BUCKET};
 
-use crate::buckets::{Bucket, NO_BUCKET, Queue, bucket_of, hold, next, rank, take};
+use crate::buckets::{Bucket, NO_BUCKET, bucket_of, hold, next, rank, take};
 use crate::choice::{Key, winners};
 use crate::ids::Ids;
-use apsp_model::Memory;
+use crate::turns::Turn;
+use apsp_model::{MOST_VERTICES, Memory};
 use path_arena::{Arena, PathId};
 use std::alloc::{AllocError, Global};
-use std::collections::BinaryHeap;
 use std::marker::Model;
 
 /// The winners of the ids of one weight and number of edges.
@@ -25,11 +25,11 @@ pub struct Class {
 
 impl Model for Class {
     ghost use Rattle.weight_classes.specs.Classes.{Taken};
-    ghost use Rattle.weight_classes.specs.Ids.{ids_of};
+    ghost use Rattle.weight_classes.specs.Ids.{ids_in};
 
     ghost Value = { Taken };
 
-    ghost view = { λ c. record { rank = record { weight = c.weight; hops = c.hops }; winners = ids_of c.winners } };
+    ghost view = { λ c. record { rank = record { weight = c.weight; hops = c.hops }; winners = ids_in c.winners } };
 }
 
 impl Class {
@@ -63,7 +63,7 @@ pub struct Classes {
     // For each cell its latest bucket.
     heads: Vec<u32>,
     buckets: Vec<Bucket>,
-    queue: Queue,
+    turns: Vec<Turn>,
     won: Vec<bool>,
     // Room for the keys of as many ids as one bucket has.
     keys: Vec<Key>,
@@ -96,11 +96,17 @@ impl Classes {
         let Ok(heads) = no_heads(alloc, cells(n)) else {
             return Err(Memory);
         };
+        let Ok(buckets) = Vec::with_capacity(alloc, 2 * cells(n)) else {
+            return Err(Memory);
+        };
+        let Ok(turns) = Vec::with_capacity(alloc, cells(n) / 4) else {
+            return Err(Memory);
+        };
         Ok(Classes {
             n,
             heads,
-            buckets: Vec::new(alloc),
-            queue: BinaryHeap::new(alloc),
+            buckets,
+            turns,
             won,
             keys: Vec::new(alloc),
         })
@@ -114,34 +120,42 @@ impl Classes {
     {
         self.heads.fill(NO_BUCKET);
         self.buckets.clear();
-        self.queue.clear();
+        self.turns.clear();
         self.won.fill(false);
     }
 
     /// Holds an id. Memory changes nothing.
     pub fn push(&mut self, arena: &Arena, id: PathId) -> Result<(), Memory>
-        requires fits { Fits self.old arena.now }
+        requires fits { ClassesFit self.old arena.now }
         requires live { IsLive arena.now id }
-        requires fresh { (r : Rank) → IsHeld self.old r id → ⊥ }
+        requires fresh { (r : Rank) → IsHeldWithRank self.old r id → ⊥ }
         ensures ok { OnOk result (IsPushed self.old self.new arena.now id) }
         ensures err { OnErr result (self.new ≡ self.old) }
-        ensures fits { Fits self.new arena.now }
+        ensures fits { ClassesFit self.new arena.now }
     {
         let (weight, hops) = (arena.weight(id), arena.hops(id));
         let at = bucket_of(&mut self.heads, &mut self.buckets, weight, hops)?;
-        hold(&mut self.buckets, &mut self.queue, &mut self.keys, at, id)
+        let key = weight * MOST_VERTICES as u64 + hops as u64;
+        hold(
+            &mut self.buckets,
+            &mut self.turns,
+            &mut self.keys,
+            at,
+            key,
+            id,
+        )
     }
 
     /// Takes out all ids of the least weight that have the fewest edges among those. Of each pair among
     /// them that was not won the least id wins, and the pair is won.
     pub fn pop_class(&mut self, arena: &Arena) -> Option<Class>
-        requires fits { Fits self.old arena.now }
+        requires fits { ClassesFit self.old arena.now }
         ensures class { MatchOption result (self.old.held ≡ [])
             (λ c. IsPopped self.old self.new arena.now c.rank c.winners) }
         ensures none { IfNone result (self.new ≡ self.old) }
-        ensures fits { Fits self.new arena.now }
+        ensures fits { ClassesFit self.new arena.now }
     {
-        let at = next(&mut self.queue, &self.buckets)?;
+        let at = next(&mut self.turns, &self.buckets)?;
         let class = class_at(
             &mut self.buckets,
             &mut self.keys,
@@ -155,6 +169,7 @@ impl Classes {
 }
 
 /// Takes the ids of a bucket, whichever it is, and makes the pairs of the winners among them won.
+#[inline(always)]
 fn class_at(
     buckets: &mut Vec<Bucket>,
     keys: &mut Vec<Key>,
@@ -165,15 +180,17 @@ fn class_at(
 ) -> Class
     requires vertices { arena.now.vertices ≡ n }
     requires inside { at < length buckets.old.items }
-    requires fits { Fits (shown_by n buckets.old.items won.old.items) arena.now }
+    requires fits { ClassesFit (shown_by n buckets.old.items won.old.items) arena.now }
     requires room { AreRoomy (vec_capacity keys.old) buckets.old.items }
     requires pairs { vec_len won.old ≡ n * n }
-    ensures popped { (heads : List ℕ) → IsIndexed heads buckets.old.items → IsNext buckets.old.items at
+    ensures popped { (heads : List ℕ) → IsIndexed heads buckets.old.items → IsNextBucket buckets.old.items at
         → IsPopped (shown_by n buckets.old.items won.old.items)
         (shown_by n buckets.new.items won.new.items) arena.now result.rank result.winners }
-    ensures fits { Fits (shown_by n buckets.new.items won.new.items) arena.now }
+    ensures fits { ClassesFit (shown_by n buckets.new.items won.new.items) arena.now }
     ensures same { (heads : List ℕ) → IsIndexed heads buckets.old.items → IsIndexed heads buckets.new.items }
-    ensures queue { (turns : List Turn) → IsQueue turns buckets.old.items → IsQueue turns buckets.new.items }
+    ensures queue { (turns : List Turn)
+        → AreTurns turns (ranks_in buckets.old.items) (slice_set (idss_in buckets.old.items) at [])
+        → IsQueue turns buckets.new.items }
     ensures room { AreRoomy (vec_capacity keys.new) buckets.new.items }
     ensures pairs { vec_len won.new ≡ vec_len won.old }
 {
@@ -187,13 +204,14 @@ fn class_at(
     }
 }
 
-/// A power of two that is a fraction of the pairs: few of them come in one settling.
+/// A power of two that is a fraction of the pairs: few of them come in one settling, and each begins
+/// with the cells cleared.
 fn cells(n: u32) -> usize
-    ensures { 0 < result }
+    ensures some { 0 < result }
+    ensures most { result ≤ 65536 }
 {
     match n {
-        0..=64 => 1024,
-        65..=128 => 4096,
+        0..=128 => 512,
         129..=256 => 16384,
         _ => 65536,
     }

@@ -1,7 +1,7 @@
 //! The ids of one bucket.
 
 ghost use Rattle.std.specs.Prelude.{◌≡◌, ◌==◌, ◌∷◌, ◌++◌, [], length, OnOk, OnErr};
-ghost use Rattle.weight_classes.specs.Ids.{ids_of};
+ghost use Rattle.weight_classes.specs.Ids.{ids_in};
 
 use apsp_model::Memory;
 use path_arena::PathId;
@@ -22,7 +22,7 @@ pub(crate) enum Ids {
 
 impl Ids {
     pub(crate) fn len(&self) -> usize
-        ensures { result ≡ length (ids_of self.now) }
+        ensures { result ≡ length (ids_in self.now) }
     {
         match self {
             Ids::Empty => 0,
@@ -32,13 +32,13 @@ impl Ids {
     }
 
     pub(crate) fn is_empty(&self) -> bool
-        ensures { result ≡ (length (ids_of self.now) == 0) }
+        ensures { result ≡ (length (ids_in self.now) == 0) }
     {
         self.len() == 0
     }
 
     pub(crate) fn as_slice(&self) -> &[PathId]
-        ensures { result.now ≡ ids_of self.now }
+        ensures { result.now ≡ ids_in self.now }
     {
         match self {
             Ids::Empty => &[],
@@ -49,7 +49,7 @@ impl Ids {
 
     /// Puts an id behind the others. Memory changes nothing.
     pub(crate) fn push(&mut self, alloc: Global, id: PathId) -> Result<(), Memory>
-        ensures ok { OnOk result (ids_of self.new ≡ ids_of self.old ++ id ∷ []) }
+        ensures ok { OnOk result (ids_in self.new ≡ ids_in self.old ++ id ∷ []) }
         ensures err { OnErr result (self.new ≡ self.old) }
     {
         match self {

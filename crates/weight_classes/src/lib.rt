@@ -9,5 +9,6 @@ mod ids;
 pub mod laws;
 #[cfg(test)]
 mod tests;
+mod turns;
 
 pub use classes::{Class, Classes};

@@ -1,9 +1,9 @@
-use Rattle.std.proofs.Common.{heap_items, heap_len}
+use Rattle.std.proofs.Common.{vec_len}
 use Rattle.weight_classes.specs.Inside.{IsQueue}
 use Rattle.weight_classes.proofs.buckets.next.Given as goal
 
 abbrev pub invariant-turns : goal.invariant-turns
-invariant-turns l = IsQueue (heap_items l.queue) l.buckets
+invariant-turns l = IsQueue l.turns.items l.buckets
 
 abbrev pub decreases-turns : goal.decreases-turns
-decreases-turns l = heap_len l.queue
+decreases-turns l = vec_len l.turns

@@ -1,10 +1,10 @@
-use Rattle.std.proofs.Common.{◌∙◌, ap, refl, slice_set}
+use Rattle.std.proofs.Common.{◌∙◌, ap, sym, refl, slice_set}
 use Rattle.weight_classes.specs.declared.buckets.Bucket.{Bucket}
-use Rattle.weight_classes.specs.Ids.{ids_of}
+use Rattle.weight_classes.specs.Ids.{ids_in, need_of}
 use Rattle.weight_classes.specs.Inside.{idss_in}
-use Rattle.weight_classes.proofs.Held.{ranks_same, idss_now}
+use Rattle.weight_classes.proofs.Held.{ranks_same, idss_now, need_is}
 use Rattle.weight_classes.proofs.Holding.{indexed_same}
-use Rattle.weight_classes.proofs.Pops.{queue_taken, roomy_taken}
+use Rattle.weight_classes.proofs.Pops.{roomy_taken}
 use Rattle.weight_classes.proofs.buckets.take.Goals as goal
 
 pub returns-clause-ranks : goal.returns-clause-ranks
@@ -23,18 +23,13 @@ pub returns-clause-idss : goal.returns-clause-idss
 returns-clause-idss c =
     let b : Bucket = c.index_mut.result.now in
     let d : Bucket = record { weight = b.weight; hops = b.hops; next = b.next; ids = c.replace.new.dest } in
-    idss_now c.args.buckets.now.items c.args.at b d c.requires c.index_mut.ensures.value ∙ ap (slice_set (idss_in c.args.buckets.now.items) c.args.at) (ap ids_of c.replace.ensures.after)
+    idss_now c.args.buckets.now.items c.args.at b d c.requires c.index_mut.ensures.value ∙ ap (slice_set (idss_in c.args.buckets.now.items) c.args.at) (ap ids_in c.replace.ensures.after)
 
-pub returns-clause-queue : goal.returns-clause-queue
-returns-clause-queue c =
-    let b : Bucket = c.index_mut.result.now in
-    let d : Bucket = record { weight = b.weight; hops = b.hops; next = b.next; ids = c.replace.new.dest } in
-    queue_taken c.args.buckets.now.items (slice_set c.args.buckets.now.items c.args.at d) c.args.at c.requires (ranks_same c.args.buckets.now.items c.args.at b d c.requires c.index_mut.ensures.value refl)
-    (idss_now c.args.buckets.now.items c.args.at b d c.requires c.index_mut.ensures.value ∙ ap (slice_set (idss_in c.args.buckets.now.items) c.args.at) (ap ids_of c.replace.ensures.after))
+pub returns-clause-need : goal.returns-clause-need
+returns-clause-need c = ap need_of c.replace.ensures.value ∙ sym (need_is c.args.buckets.now.items c.args.at c.index_mut.result.now c.requires c.index_mut.ensures.value)
 
 pub returns-clause-room : goal.returns-clause-room
 returns-clause-room c =
     let b : Bucket = c.index_mut.result.now in
     let d : Bucket = record { weight = b.weight; hops = b.hops; next = b.next; ids = c.replace.new.dest } in
-    roomy_taken c.args.buckets.now.items (slice_set c.args.buckets.now.items c.args.at d) c.args.at c.requires (ranks_same c.args.buckets.now.items c.args.at b d c.requires c.index_mut.ensures.value refl)
-    (idss_now c.args.buckets.now.items c.args.at b d c.requires c.index_mut.ensures.value ∙ ap (slice_set (idss_in c.args.buckets.now.items) c.args.at) (ap ids_of c.replace.ensures.after))
+    roomy_taken c.args.buckets.now.items c.args.at b d c.requires c.index_mut.ensures.value c.replace.ensures.after

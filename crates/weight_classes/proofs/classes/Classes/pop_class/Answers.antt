@@ -1,7 +1,7 @@
-use Rattle.std.proofs.Common.{◌≡◌, [], List, sym, ap, subst, rules, ◌∙◌, heap_items}
-use Rattle.weight_classes.specs.Classes.{Classes, Fits, IsPopped}
+use Rattle.std.proofs.Common.{◌≡◌, [], List, sym, ap, subst, rules, ◌∙◌, slice_set}
+use Rattle.weight_classes.specs.Classes.{Classes, ClassesFit, IsPopped}
 use Rattle.weight_classes.specs.declared.buckets.Bucket.{Bucket}
-use Rattle.weight_classes.specs.Inside.{IsNext, IsQueue, AreEmpty, shown_by}
+use Rattle.weight_classes.specs.Inside.{IsNextBucket, AreTurns, AreEmpty, idss_in, ranks_in, shown_by}
 use Rattle.weight_classes.proofs.Pops.{none_held}
 use Rattle.weight_classes.proofs.classes.Classes.pop_class.Goals as goal
 
@@ -13,7 +13,7 @@ pub class_at-class-requires-clause-vertices : goal.class_at-class-requires-claus
 class_at-class-requires-clause-vertices c = c.requires.fits.vertices ∙ sym (ap (λ (h : Classes). h.vertices) c.self.view_is)
 
 pub class_at-class-requires-clause-fits : goal.class_at-class-requires-clause-fits
-class_at-class-requires-clause-fits c = subst (λ (h : Classes). Fits h c.args.arena.now) (sym c.self.view_is) c.requires.fits
+class_at-class-requires-clause-fits c = subst (λ (h : Classes). ClassesFit h c.args.arena.now) (sym c.self.view_is) c.requires.fits
 
 pub class_at-class-requires-clause-room : goal.class_at-class-requires-clause-room
 class_at-class-requires-clause-room c = c.self.invariant.room
@@ -26,13 +26,13 @@ invariant_of-self-2 c = record {
   pairs = c.class_at-class.ensures.pairs ∙ c.self.invariant.pairs;
   room = c.class_at-class.ensures.room;
   indexed = c.class_at-class.ensures.same c.self.inside.heads.items c.self.invariant.indexed;
-  queue = c.class_at-class.ensures.queue (heap_items c.next.new.queue) (subst (λ (bs : List Bucket). IsQueue (heap_items c.next.new.queue) bs) c.deref.ensures.value c.next.ensures.queue);
+  queue = c.class_at-class.ensures.queue c.next.new.turns.items (subst (λ (bs : List Bucket). AreTurns c.next.new.turns.items (ranks_in bs) (slice_set (idss_in bs) c.in_ok-at.at [])) c.deref.ensures.value c.in_ok-at.ensures.others);
 }
 
 pub returns-clause-class : goal.returns-clause-class
 returns-clause-class c =
     subst (λ (h : Classes). IsPopped h (shown_by c.self.inside.n c.class_at-class.new.buckets.items c.class_at-class.new.won.items) c.args.arena.now c.class_at-class.result.rank c.class_at-class.result.winners) c.self.view_is
-    (c.class_at-class.ensures.popped c.self.inside.heads.items c.self.invariant.indexed (subst (λ (bs : List Bucket). IsNext bs c.in_ok-at.at) c.deref.ensures.value c.in_ok-at.ensures.some))
+    (c.class_at-class.ensures.popped c.self.inside.heads.items c.self.invariant.indexed (subst (λ (bs : List Bucket). IsNextBucket bs c.in_ok-at.at) c.deref.ensures.value c.in_ok-at.ensures.some))
 
 pub returns-clause-fits : goal.returns-clause-fits
 returns-clause-fits c = c.class_at-class.ensures.fits
