@@ -5,11 +5,11 @@ use Rattle.std.proofs.Common.{sym, ◌∙◌, ap, subst, arith}
 use Rattle.apsp_model.proofs.Walks.{first_is, last_is}
 use Rattle.path_arena.specs.Arena.{Arena, list_of, HasAnEdge, IsArena}
 use Rattle.path_arena.proofs.Paths.{Parted, parted, live_from_edge}
-use Rattle.pair_heaps.specs.Heaps.{Heaps, IsInserted, Fits, HasEnds, spare_at, TellsLeast}
+use Rattle.pair_heaps.specs.Heaps.{Heaps, IsInserted, HeapsFit, HasEnds, spare_at, TellsLeast}
 use Rattle.pair_heaps.proofs.Fits.{ends_in_rows}
 use Rattle.extension_lists.specs.Known.{Known}
 use Rattle.path_book.specs.Book.{entered}
-use Rattle.path_book.specs.Admitted.{HasRoom, IsAdmitted, IsKnownPath}
+use Rattle.path_book.specs.Admitted.{HasRoomForPath, IsAdmitted, IsKnownPath}
 use Rattle.path_book.specs.declared.admit.NewPath.{NewPath}
 
 -- the ends of a live path with an edge
@@ -29,15 +29,13 @@ same_ends a id x y u v e f = (
   let two : Some v ≡ Some y = sym f.1 ∙ e.1 in cc,
 )
 
-pub admitted : {F E : Type 0} (a : Arena) (old new : Heaps) (lists later : Known) (path : NewPath) → IsArena a → HasAnEdge a path.id → HasRoom a old path.id → IsKnownPath a path → (e : Result F E) → is_err e ≡ false → OnOk e (later ≡ entered lists path.id path.left path.right) → (o : Result Bool E) → OnOk o (IsInserted old new path.id path.from path.to) → OnErr o (spare_at old path.from path.to ≡ 0) → Fits new a → IsAdmitted a old new lists later path.id
-admitted a old new lists later path h edge room known (Err e) fine done o ok full fits = cc
-admitted a old new lists later path h edge room known (Ok t) fine done (Err f) ok full fits =
-    absurd (let some : 1 ≤ spare_at old path.from path.to = room.spare path.from path.to known.ends in omega (arith, full))
-admitted a old new lists later path h edge room known (Ok t) fine done (Ok u) ok full fits = record {
+pub admitted : {F E : Type 0} (a : Arena) (old new : Heaps) (lists later : Known) (path : NewPath) → IsArena a → HasAnEdge a path.id → IsKnownPath a path → (e : Result F E) → is_err e ≡ false → OnOk e (later ≡ entered lists path.id path.left path.right) → IsInserted old new path.id path.room.x path.room.y → HeapsFit new a → IsAdmitted a old new lists later path.id
+admitted a old new lists later path h edge known (Err e) fine done ok fits = cc
+admitted a old new lists later path h edge known (Ok t) fine done ok fits = record {
   fits = fits;
   inserted = λ x y ends. (
-      let two : (x ≡ path.from) × (y ≡ path.to) = same_ends a path.id path.from path.to x y known.ends ends in
-      subst (λ k. IsInserted old new path.id k y) (sym two.0) (subst (λ k. IsInserted old new path.id path.from k) (sym two.1) ok)
+      let two : (x ≡ path.room.x) × (y ≡ path.room.y) = same_ends a path.id path.room.x path.room.y x y known.ends ends in
+      subst (λ k. IsInserted old new path.id k y) (sym two.0) (subst (λ k. IsInserted old new path.id path.room.x k) (sym two.1) ok)
       );
   entered_lists = λ k q is_left is_right. (
       let same_l : path.left ≡ k = (let two : Some path.left ≡ Some k = sym known.left ∙ is_left in cc) in
@@ -45,12 +43,3 @@ admitted a old new lists later path h edge room known (Ok t) fine done (Ok u) ok
       done ∙ (λ i. entered lists path.id (same_l i) (same_r i))
       );
 }
-
--- there is room, so the heaps tell whether it is the least
-pub told_least : {E : Type 0} (a : Arena) (old new : Heaps) (path : NewPath) → HasRoom a old path.id → IsKnownPath a path → (o : Result Bool E) → IfOk o (λ told. TellsLeast a told new old path.id path.from path.to) → OnErr o (spare_at old path.from path.to ≡ 0) → TellsLeast a (result_unwrap_or o false) new old path.id path.from path.to
-told_least a old new path room known (Ok told) least full = least
-told_least a old new path room known (Err e) least full = absurd (let some : 1 ≤ spare_at old path.from path.to = room.spare path.from path.to known.ends in omega (arith, full))
-
--- a path that can be put in is between vertices of the heaps
-pub known_inside : (a : Arena) (h : Heaps) (path : NewPath) → IsArena a → HasAnEdge a path.id → HasRoom a h path.id → IsKnownPath a path → (path.from < h.vertices) × (path.to < h.vertices)
-known_inside a h path lawful edge room known = ends_in_rows h a path.id path.from path.to room.fits lawful (live_from_edge a path.id lawful edge) known.ends

@@ -1,16 +1,19 @@
 -- What the calls change of the list of kept paths.
 use Rattle.std.specs.Prelude.{◌≡◌, ◌≢◌, ℕ, ◌<◌, ◌⊎◌, List, [], ◌∷◌, length, ◌↔◌, true, false, Some, None, is_some, unwrap_or, refl, Contains}
+use Rattle.std.specs.Ordering.{nat_cmp}
 use Rattle.std.specs.FinSet as set
 use Rattle.std.proofs.Common.{sym, ◌∙◌, ap, subst, arith, inl, inr}
 use Rattle.std.proofs.lemmas.Bool.{cases_eq, false≢true}
 use Rattle.std.proofs.lemmas.List.{length-append}
 use Rattle.apsp_model.specs.Paths.{KeptPath}
-use Rattle.path_arena.specs.Arena.{Path, path_at, vertex_of, IsLive, no_path, path_of, list_of, single, joined_path, CanJoin, without_path, with_path}
+use Rattle.apsp_model.proofs.Members.{in_cons, in_nil, head_in, tail_in}
+use Rattle.path_arena.specs.Arena.{Arena, Path, path_at, vertex_of, IsLive, no_path, path_of, list_of, single, joined_path, CanJoin, without_path, with_path}
 use Rattle.path_arena.proofs.Keys.{get_put, get_put_other, get_gone, get_gone_other}
 use Rattle.path_arena.proofs.Paths.{live_from, live_apart, path_of_at, Meeting, meeting}
 use Rattle.extension_lists.specs.Known.{Known}
-use Rattle.path_book.specs.Book.{Book, IsMarked, kept_path, kept_paths, with_kept, with_mark, IsForgotten, IsNewList, IsOpening, IsBook}
-use Rattle.path_book.proofs.Kept.{in_kept, to_kept, live_is_kept, kept_at}
+use Rattle.path_book.specs.Book.{Book, IsMarked, kept_path, kept_paths, with_kept, with_mark, IsForgotten, IsNewList, IsOpeningBook, IsBook}
+use Rattle.path_book.specs.Through.{AreForgotten, without_paths, without_marks}
+use Rattle.path_book.proofs.Kept.{KeptAt, in_kept, to_kept, live_is_kept, kept_at}
 use Rattle.path_book.proofs.Sets.{marked_put, marked_put_other, marked_gone_other}
 
 -- which ids are live after one is forgotten
@@ -113,10 +116,58 @@ module _ (b : Book) (id : ℕ) (was : IsBook b) (live : IsLive b.arena id) where
       mark_left : (q : ℕ) → q ≢ id → set.contains new.marked q ≡ set.contains b.marked q
       mark_left q apart = ap (λ s. set.contains s q) f.marked ∙ marked_gone_other b.marked id q apart
 
+-- ---- what stays where several are forgotten
+
+same_path : (a : Arena) (ids : List ℕ) (q : ℕ) → (Contains ids q → ⊥) → path_at (without_paths a ids) q ≡ path_at a q
+same_path a [] q other = refl
+same_path a (id ∷ ids) q other =
+    get_gone_other (without_paths a ids).paths id q (λ same. other (head_in q id ids (sym same)))
+    ∙ same_path a ids q (λ c. other (tail_in q id ids c))
+
+same_mark : (marked : set.FinSet nat_cmp) (ids : List ℕ) (q : ℕ) → (Contains ids q → ⊥) → set.contains (without_marks marked ids) q ≡ set.contains marked q
+same_mark marked [] q other = refl
+same_mark marked (id ∷ ids) q other =
+    marked_gone_other (without_marks marked ids) id q (λ same. other (head_in q id ids (sym same)))
+    ∙ same_mark marked ids q (λ c. other (tail_in q id ids c))
+
+gone_path : (a : Arena) (ids : List ℕ) (q : ℕ) → Contains ids q → path_at (without_paths a ids) q ≡ None
+gone_path a [] q c = absurd (in_nil q c)
+gone_path a (id ∷ ids) q c = elim (cases_eq q id) [
+  | inl same ↦ ap (path_at (without_path (without_paths a ids) id)) same ∙ get_gone (without_paths a ids).paths id
+  | inr apart ↦ get_gone_other (without_paths a ids).paths id q apart ∙ gone_path a ids q (elim (in_cons q id ids c) [ inl same ↦ absurd (apart (sym same)) | inr more ↦ more ])
+]
+
+same_vertices : (a : Arena) (ids : List ℕ) → (without_paths a ids).vertices ≡ a.vertices
+same_vertices a [] = refl
+same_vertices a (id ∷ ids) = same_vertices a ids
+
+module _ (b new : Book) (ids : List ℕ) (f : AreForgotten b new ids) where
+  pub vertices_forgotten : new.arena.vertices ≡ b.arena.vertices
+  vertices_forgotten = ap (λ a. a.vertices) f.arena ∙ same_vertices b.arena ids
+
+  same_kept : (id : ℕ) → (Contains ids id → ⊥) → kept_path new id (path_of new.arena id) ≡ kept_path b id (path_of b.arena id)
+  same_kept id other =
+      let of : path_of new.arena id ≡ path_of b.arena id = ap (λ o. unwrap_or o no_path) (ap (λ a. path_at a id) f.arena ∙ same_path b.arena ids id other) in
+      let mark : set.contains new.marked id ≡ set.contains b.marked id = ap (λ s. set.contains s id) f.marked ∙ same_mark b.marked ids id other in
+      (λ i. record { list = (of i).list; weight = (of i).weight; historical = mark i; birth = (of i).birth })
+
+  -- what is kept was kept, and is none of them
+  pub kept_before : (k : KeptPath) → Contains (kept_paths new) k → (at : KeptAt b k) × (Contains ids at.id → ⊥)
+  kept_before k c =
+      let at : KeptAt new k = kept_at new k c in
+      let other : Contains ids at.id → ⊥ = λ c. false≢true (sym (ap is_some (ap (λ a. path_at a at.id) f.arena ∙ gone_path b.arena ids at.id c)) ∙ at.live) in
+      let is : kept_path b at.id (path_of b.arena at.id) ≡ k = sym (same_kept at.id other) ∙ at.is in
+      (record { id = at.id; live = sym (ap is_some (ap (λ a. path_at a at.id) f.arena ∙ same_path b.arena ids at.id other)) ∙ at.live; is = is; list = ap (λ q. q.list) is }, other)
+
+  pub kept_still : (id : ℕ) → IsLive b.arena id → (Contains ids id → ⊥) → Contains (kept_paths new) (kept_path b id (path_of b.arena id))
+  kept_still id live other =
+      subst (Contains (kept_paths new)) (same_kept id other)
+      (live_is_kept new id (ap is_some (ap (λ a. path_at a id) f.arena ∙ same_path b.arena ids id other) ∙ live))
+
 -- ---- for callers: conditions that hold behind a call
 
 -- a list of two or more vertices is new to an opening book
-pub new_at_opening : (b : Book) (n : ℕ) (list : List ℕ) → IsBook b → IsOpening b n → 1 < length list → IsNewList b list
+pub new_at_opening : (b : Book) (n : ℕ) (list : List ℕ) → IsBook b → IsOpeningBook b n → 1 < length list → IsNewList b list
 new_at_opening b n list was opening long id live same =
     let u = opening.live id live in
     let inside : u.0 < b.arena.vertices = (let l : u.0 < n = u.1 in omega (arith, opening.vertices)) in

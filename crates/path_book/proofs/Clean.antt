@@ -5,13 +5,13 @@ use Rattle.std.proofs.Common.{sym, ◌∙◌, ap, subst, arith, inl, inr}
 use Rattle.std.proofs.lemmas.Bool.{cases_eq, false≢true, true≢false}
 use Rattle.apsp_model.specs.Order.{path_cmp}
 use Rattle.apsp_model.specs.Walk.{first, last}
-use Rattle.path_arena.specs.Arena.{Path, path_at, vertex_of, IsLive, no_path, path_of, list_of, single, HasAnEdge, id_cmp, with_path}
+use Rattle.path_arena.specs.Arena.{Path, path_at, vertex_of, IsLive, no_path, path_of, list_of, single, HasAnEdge, id_cmp, with_path, without_path}
 use Rattle.path_arena.proofs.Keys.{get_put_other, get_gone, get_gone_other}
 use Rattle.path_arena.proofs.Paths.{path_of_at, live_from_edge}
 use Rattle.pair_heaps.specs.Heaps.{HasEnds}
 use Rattle.pair_heaps.proofs.Places.{ends_inside}
 use Rattle.extension_lists.specs.Known.{Known}
-use Rattle.path_book.specs.Book.{Book, IsMarked, with_kept, with_mark, IsForgotten, IsOpening, IsBook, IsLeastKept, KeepsNone, HasNoPendingLeast}
+use Rattle.path_book.specs.Book.{Book, IsMarked, with_kept, with_mark, IsOpeningBook, IsBook, IsLeastKeptId, KeepsNone, HasNoPendingLeast}
 use Rattle.path_book.specs.Dirty.{Dirty, is_dirty, with_all, IsNoted}
 use Rattle.path_book.specs.Layout.{IsClean}
 use Rattle.path_book.proofs.Sets.{marked_put, marked_put_other, marked_gone_other}
@@ -65,7 +65,7 @@ module _ (old new : Book) (id x y : ℕ) (agree : AgreeBut old new id x y) (u v 
       let apart = apart_after q live ends in
       none q (live_before q apart live) (ends_before q apart ends)
 
-  pub least_still : (q : ℕ) → IsLeastKept old u v q → IsLeastKept new u v q
+  pub least_still : (q : ℕ) → IsLeastKeptId old u v q → IsLeastKeptId new u v q
   least_still q least =
       let apart : q ≢ id = apart_before q least.live least.ends in
       record {
@@ -104,13 +104,13 @@ clean_formed b id p d noted x y was new clean note begins finishes = clean_but b
       (ap (λ q. first q.list) (path_of_new b id p was new) ∙ begins, ap (λ q. last q.list) (path_of_new b id p was new) ∙ finishes) ends;
 })
 
-pub clean_forgotten : (b new : Book) (id : ℕ) (d noted : Dirty) (x y : ℕ) → IsForgotten b new id → IsClean b d → IsNoted d noted x y → HasEnds b.arena id x y → IsClean new noted
-clean_forgotten b new id d noted x y forgotten clean note ends = clean_but b new d noted id x y clean note (record {
-  vertices = ap (λ a. a.vertices) forgotten.arena;
-  paths = λ q apart. ap (λ a. path_at a q) forgotten.arena ∙ get_gone_other b.arena.paths id q apart;
-  marks = λ q apart mark. ap (λ m. set.contains m q) forgotten.marked ∙ marked_gone_other b.marked id q apart ∙ mark;
+pub clean_forgotten : (b new : Book) (id : ℕ) (d noted : Dirty) (x y : ℕ) → new.arena ≡ without_path b.arena id → new.marked ≡ set.remove b.marked id → IsClean b d → IsNoted d noted x y → HasEnds b.arena id x y → IsClean new noted
+clean_forgotten b new id d noted x y arena marked clean note ends = clean_but b new d noted id x y clean note (record {
+  vertices = ap (λ a. a.vertices) arena;
+  paths = λ q apart. ap (λ a. path_at a q) arena ∙ get_gone_other b.arena.paths id q apart;
+  marks = λ q apart mark. ap (λ m. set.contains m q) marked ∙ marked_gone_other b.marked id q apart ∙ mark;
   before = λ u v live there. ends_alike b.arena id x y u v ends there;
-  after = λ u v live there. absurd (false≢true (sym (ap is_some (ap (λ a. path_at a id) forgotten.arena ∙ get_gone b.arena.paths id)) ∙ live));
+  after = λ u v live there. absurd (false≢true (sym (ap is_some (ap (λ a. path_at a id) arena ∙ get_gone b.arena.paths id)) ∙ live));
 })
 
 -- the ends of a path with an edge are vertices of the book
@@ -163,13 +163,13 @@ clean_promoted b id lists d clean = record {
   ];
 }
 
-pub clean_opening : (b : Book) (n : ℕ) (d : Dirty) → IsBook b → IsOpening b n → n ≡ d.vertices → IsClean b d
+pub clean_opening : (b : Book) (n : ℕ) (d : Dirty) → IsBook b → IsOpeningBook b n → n ≡ d.vertices → IsClean b d
 clean_opening b n d was opening as_many = record {
   vertices = opening.vertices ∙ as_many;
   clean = λ u v u_in v_in none. elim (cases_eq u v) [
     | inl same ↦
         let inside : u < b.arena.vertices = omega (arith, u_in, opening.vertices, as_many) in
-        inr (vertex_of b.arena u, subst (λ w. IsLeastKept b u w (vertex_of b.arena u)) same (least_single b was u inside), was.singles u inside)
+        inr (vertex_of b.arena u, subst (λ w. IsLeastKeptId b u w (vertex_of b.arena u)) same (least_single b was u inside), was.singles u inside)
     | inr apart ↦ inl (λ q live ends. (
         let single_is = opening.live q live in
         let inside : single_is.0 < b.arena.vertices = (let l : single_is.0 < n = single_is.1 in omega (arith, opening.vertices)) in

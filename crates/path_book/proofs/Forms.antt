@@ -1,5 +1,5 @@
 -- How a new path is put into a book: what its parts ask for, and what they are afterwards.
-use Rattle.std.specs.Prelude.{◌≡◌, ◌≢◌, ℕ, ◌+◌, ◌^◌, ◌<◌, ◌≤◌, [], ◌∷◌, length, Some, None, Result, Ok, Err, OnErr, unwrap_or, refl, Contains}
+use Rattle.std.specs.Prelude.{◌≡◌, ◌≢◌, ℕ, Bool, ◌+◌, ◌^◌, ◌<◌, ◌≤◌, [], ◌∷◌, length, Some, None, Result, Ok, Err, OnErr, unwrap_or, refl, Contains}
 use Rattle.std.specs.FinMap as map
 use Rattle.std.proofs.Common.{sym, ◌∙◌, ap, subst, arith, inl, inr}
 use Rattle.std.proofs.lemmas.Cmp.{nat_cmp_total}
@@ -10,12 +10,14 @@ use Rattle.apsp_model.proofs.Lists.{first-append, last-push}
 use Rattle.path_arena.specs.Arena.{Path, Arena, no_path, path_at, path_of, list_of, left_of, right_of, HasAnEdge, edge_path, joined_path, with_path, without_path, IsPartOfNone, CanJoin, IsArena}
 use Rattle.path_arena.proofs.Keys.{get_put_other, get_gone, get_gone_other}
 use Rattle.path_arena.proofs.Paths.{live_apart, live_from_edge, added_is_part_of_none, Meeting, meeting}
-use Rattle.pair_heaps.specs.Heaps.{Heaps, held_at, spare_at, Fits, HasEnds, IsHeld, IsReserved}
+use Rattle.pair_heaps.specs.Heaps.{Heaps, held_at, spare_at, HeapsFit, HasEnds, IsHeld, IsReserved, TellsLeast}
+use Rattle.pair_heaps.specs.Rooms.{IsRoomOf}
+use Rattle.pair_heaps.specs.declared.heaps.Room.{Room}
 use Rattle.pair_heaps.proofs.Fits.{IsFreshIn, fresh_in, ends_in_rows}
 use Rattle.extension_lists.specs.Known.{Known, IsKnown}
 use Rattle.path_book.specs.Book.{Book, IsMarked, IsNewList, left_id, right_id, entered, with_kept, IsBook}
 use Rattle.path_book.specs.Layout.{HoldsPaths, IsStored}
-use Rattle.path_book.specs.Admitted.{StandsNowhere, CanEnter, HasRoom, IsAdmitted, IsKnownPath}
+use Rattle.path_book.specs.Admitted.{StandsNowhere, CanEnter, HasRoomForPath, IsAdmitted, IsKnownPath}
 use Rattle.path_book.proofs.Formed.{IsNew, same_pair, ends_alike, edge_now, path_of_new, stored_formed}
 
 -- a path that was added and taken out again leaves the arena as it was
@@ -28,7 +30,7 @@ added_and_taken a id p fresh =
     λ i. record { vertices = a.vertices; singles = a.singles; paths = maps i }
 
 -- with room for one more id the heaps hold what they held
-pub holds_reserved : (a : Arena) (h k : Heaps) (x y : ℕ) → HoldsPaths a h → Fits k a → IsReserved h k x y → HoldsPaths a k
+pub holds_reserved : (a : Arena) (h k : Heaps) (x y : ℕ) → HoldsPaths a h → HeapsFit k a → IsReserved h k x y → HoldsPaths a k
 holds_reserved a h k x y holds fits reserved = record {
   fits = fits;
   held = λ q u v edge ends. subst (λ xs. Contains xs q) (sym (same u v)) (holds.held q u v edge ends);
@@ -41,7 +43,7 @@ holds_reserved a h k x y holds fits reserved = record {
       | inr apart ↦ ap (λ s. s.held) (reserved.only.others u v apart)
     ]
 
-pub stored_reserved : (b : Book) (h k : Heaps) (x y historical pending : ℕ) → IsStored b h historical pending → (Fits h b.arena → Fits k b.arena) → IsReserved h k x y → IsStored b k historical pending
+pub stored_reserved : (b : Book) (h k : Heaps) (x y historical pending : ℕ) → IsStored b h historical pending → (HeapsFit h b.arena → HeapsFit k b.arena) → IsReserved h k x y → IsStored b k historical pending
 stored_reserved b h k x y historical pending stored fits reserved = record {
   book = stored.book;
   heaps = holds_reserved b.arena h k x y stored.heaps (fits stored.heaps.fits) reserved;
@@ -55,11 +57,11 @@ pub record AsksMet (b : Book) (now : Arena) (heaps : Heaps) (id : ℕ) : Type 0 
   pub lawful : IsArena now
   pub edge : HasAnEdge now id
   pub free : IsPartOfNone now id
-  pub room : HasRoom now heaps id
+  pub room : HasRoomForPath now heaps id
   pub new : IsHeld heaps id → ⊥
   pub lists : CanEnter now b.lists id
 
-pub asks_met : (b : Book) (id : ℕ) (p : Path) (h k : Heaps) (x y historical pending : ℕ) (now : Arena) → IsStored b h historical pending → IsNew b id p → now ≡ with_path b.arena id p → (Fits h b.arena → Fits k b.arena) → IsReserved h k x y → first p.list ≡ Some x → last p.list ≡ Some y → AsksMet b now k id
+pub asks_met : (b : Book) (id : ℕ) (p : Path) (h k : Heaps) (x y historical pending : ℕ) (now : Arena) → IsStored b h historical pending → IsNew b id p → now ≡ with_path b.arena id p → (HeapsFit h b.arena → HeapsFit k b.arena) → IsReserved h k x y → first p.list ≡ Some x → last p.list ≡ Some y → AsksMet b now k id
 asks_met b id p h k x y historical pending now stored new is fits reserved from to = record {
   lawful = subst IsArena (sym is) new.arena;
   edge = subst (λ a. HasAnEdge a id) (sym is) (edge_now b id p stored.book new);
@@ -178,7 +180,7 @@ pub record JoinEnds (a : Arena) (h : Heaps) (l r birth x y : ℕ) : Type 0 where
   pub begins : first (joined_path a l r birth).list ≡ Some x
   pub finishes : last (joined_path a l r birth).list ≡ Some y
 
-pub join_ends : (a : Arena) (h : Heaps) (l r birth x y : ℕ) → IsArena a → Fits h a → CanJoin a l r → first (list_of a l) ≡ Some x → last (list_of a r) ≡ Some y → JoinEnds a h l r birth x y
+pub join_ends : (a : Arena) (h : Heaps) (l r birth x y : ℕ) → IsArena a → HeapsFit h a → CanJoin a l r → first (list_of a l) ≡ Some x → last (list_of a r) ≡ Some y → JoinEnds a h l r birth x y
 join_ends a h l r birth x y lawful fits can from to = record {
   from = (ends_in_rows h a l x back fits lawful (live_from_edge a l lawful can.left_live) (from, left_ends)).0;
   to = (ends_in_rows h a r front y fits lawful (live_from_edge a r lawful can.right_live) (right_begins, to)).1;
@@ -207,8 +209,22 @@ join_ends a h l r birth x y lawful fits can from to = record {
     right_begins : first (list_of a r) ≡ Some front
     right_begins = (first_is (list_of a r) long_right).1
 
+-- a room is that of its own pair
+pub own_room : (h : Heaps) (room : Room) (x y : ℕ) → IsRoomOf h room x y → IsRoomOf h room room.x room.y
+own_room h room x y is = subst (λ u. IsRoomOf h room u room.y) (sym is.x_is) (subst (λ v. IsRoomOf h room x v) (sym is.y_is) is)
+
+-- what is told at the ends that a room has is told at those that are these
+pub told_at : (h : Heaps) (room : Room) (x y : ℕ) (a : Arena) (told : Bool) (new old : Heaps) (id : ℕ) → IsRoomOf h room x y → TellsLeast a told new old id room.x room.y → TellsLeast a told new old id x y
+told_at h room x y a told new old id is tells = subst (λ u. TellsLeast a told new old id u y) is.x_is (subst (λ v. TellsLeast a told new old id room.x v) is.y_is tells)
+
+-- the ends of a path that is new in the arena
+pub new_ends : (b : Book) (id : ℕ) (p : Path) (now : Arena) (x y : ℕ) → IsBook b → IsNew b id p → now ≡ with_path b.arena id p → first p.list ≡ Some x → last p.list ≡ Some y → HasEnds now id x y
+new_ends b id p now x y was new is begins finishes =
+    let of : path_of now id ≡ p = ap (λ a. path_of a id) is ∙ path_of_new b id p was new in
+    (ap (λ q. first q.list) of ∙ begins, ap (λ q. last q.list) of ∙ finishes)
+
 -- the parts and the ends of a join that is new in the arena
-pub join_known : (b : Book) (id l r birth x y : ℕ) (now : Arena) → IsBook b → IsNew b id (joined_path b.arena l r birth) → now ≡ with_path b.arena id (joined_path b.arena l r birth) → first (joined_path b.arena l r birth).list ≡ Some x → last (joined_path b.arena l r birth).list ≡ Some y → IsKnownPath now (record { id = id; left = l; right = r; from = x; to = y })
-join_known b id l r birth x y now was new is begins finishes =
+pub join_known : (b : Book) (id l r birth : ℕ) (room : Room) (now : Arena) → IsBook b → IsNew b id (joined_path b.arena l r birth) → now ≡ with_path b.arena id (joined_path b.arena l r birth) → first (joined_path b.arena l r birth).list ≡ Some room.x → last (joined_path b.arena l r birth).list ≡ Some room.y → IsKnownPath now (record { id = id; left = l; right = r; room = room })
+join_known b id l r birth room now was new is begins finishes =
     let of : path_of now id ≡ joined_path b.arena l r birth = ap (λ a. path_of a id) is ∙ path_of_new b id (joined_path b.arena l r birth) was new in
-    record { left = ap (λ q. q.left) of; right = ap (λ q. q.right) of; ends = (ap (λ q. first q.list) of ∙ begins, ap (λ q. last q.list) of ∙ finishes) }
+    record { left = ap (λ q. q.left) of; right = ap (λ q. q.right) of; ends = new_ends b id (joined_path b.arena l r birth) now room.x room.y was new is begins finishes }

@@ -81,7 +81,3 @@ pending_leasts b d pairs ids clean listed inside all s = record {
     here : (x y : ℕ) → x < d.vertices → y < d.vertices → (f : Bool) → flag_at d x y ≡ f → HasNoPendingLeast b x y ⊎ ((id : ℕ) × IsPendingLeast b x y id × Contains ids id)
     here x y x_in y_in true up = s.looked (x, y) (all x y x_in y_in up)
     here x y x_in y_in false down = inl (clean.clean x y x_in y_in (ap (λ a. cond a true (flag_at d x y)) listed ∙ down))
-
-pub on_ok_then : {T E P Q : Type 0} (r : Result T E) → (P → Q) → OnOk r P → OnOk r Q
-on_ok_then (Ok t) f p = f p
-on_ok_then (Err e) f p = p

@@ -3,6 +3,7 @@ pub mod Kept
 pub mod Sets
 pub mod Places
 pub mod Sides
+pub mod Ends
 pub mod Entering
 pub mod Admitting
 pub mod Formed
@@ -17,3 +18,6 @@ pub mod Changes
 pub mod Noted
 pub mod Clean
 pub mod Heads
+pub mod Victims
+pub mod Leaving
+pub mod Through

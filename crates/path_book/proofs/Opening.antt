@@ -11,7 +11,7 @@ use Rattle.apsp_model.proofs.Members.{in_nil}
 use Rattle.apsp_model.proofs.Counting.{count_none}
 use Rattle.path_arena.specs.Arena.{Path, Arena, path_at, vertex_of, IsLive, path_of, list_of, left_of, right_of, HasAnEdge, single, no_path, IsArena, IsOpening}
 use Rattle.path_arena.proofs.Paths.{live_from, live_from_edge, path_of_at}
-use Rattle.pair_heaps.specs.Heaps.{Heaps, held_at, Fits}
+use Rattle.pair_heaps.specs.Heaps.{Heaps, held_at, HeapsFit}
 use Rattle.extension_lists.specs.Known.{Sides, Known, no_sides, IsKnown, sides_at}
 use Rattle.path_book.specs.Layout.{marked_in, IsOpenedTo, IsStored}
 use Rattle.path_book.proofs.Places.{marked_set, contains-marked_in}
@@ -81,7 +81,7 @@ opened_more a lists later marks room v id key h l is opened entered same here wi
     marks_are = marked_set room key within ∙ (λ i. set.insert (same i) (here i))
 
 -- all single vertices make a book
-pub opened_all : (a : Arena) (h : Heaps) (lists : Known) (marks : List Bool) (n : ℕ) → IsArena a → IsOpening a n → Fits h a → ((x y : ℕ) → held_at h x y ≡ []) → IsOpenedTo a lists marks n → IsStored (record { arena = a; marked = marked_in marks; lists = lists }) h 0 0
+pub opened_all : (a : Arena) (h : Heaps) (lists : Known) (marks : List Bool) (n : ℕ) → IsArena a → IsOpening a n → HeapsFit h a → ((x y : ℕ) → held_at h x y ≡ []) → IsOpenedTo a lists marks n → IsStored (record { arena = a; marked = marked_in marks; lists = lists }) h 0 0
 opened_all a h lists marks n lawful opening fits none opened = record {
   book = record {
     arena = lawful;

@@ -14,7 +14,7 @@ use Rattle.path_arena.specs.Arena.{Path, Arena, path_at, vertex_of, IsLive, path
 use Rattle.path_arena.proofs.Paths.{Parted, parted, live_path, live_from, live_from_edge, path_of_at}
 use Rattle.pair_heaps.specs.Heaps.{Heaps, held_at, HasEnds, IsHeld, IsLeastHeld, IsLeastIn, TellsLeast}
 use Rattle.pair_heaps.proofs.Orders.{not_below_itself}
-use Rattle.path_book.specs.Book.{Book, IsMarked, kept_paths, IsBook, IsLeastKept, KeepsNone, TellsLeastKept, PathsCount, HistoricalCount}
+use Rattle.path_book.specs.Book.{Book, IsMarked, kept_paths, IsBook, IsLeastKeptId, KeepsNone, TellsLeastKept, PathsCount, HistoricalCount}
 use Rattle.path_book.specs.Layout.{IsCounted, IsStored}
 use Rattle.path_book.proofs.Kept.{kept_live, historical_marked}
 
@@ -87,7 +87,7 @@ last_of_one v x y p e f l =
     let two : Some v ≡ Some y = sym (ap last e) ∙ l in
     cc
 
-pub least_kept : (b : Book) (held : Heaps) (historical pending x y : ℕ) → IsStored b held historical pending → x ≢ y → (o : Option ℕ) → IfSome o (IsLeastHeld held x y) → IsNone o ↔ (held_at held x y ≡ []) → MatchOption o (KeepsNone b x y) (IsLeastKept b x y)
+pub least_kept : (b : Book) (held : Heaps) (historical pending x y : ℕ) → IsStored b held historical pending → x ≢ y → (o : Option ℕ) → IfSome o (IsLeastHeld held x y) → IsNone o ↔ (held_at held x y ≡ []) → MatchOption o (KeepsNone b x y) (IsLeastKeptId b x y)
 least_kept b held historical pending x y stored apart None least none = λ q live ends. (
     let c : Contains (held_at held x y) q = held_of q live ends in
     let empty : held_at held x y ≡ [] = none.0 refl in
@@ -141,7 +141,7 @@ tells_kept b held old historical pending x y id told stored tells new = record {
   no = λ e. (let q = tells.no e in (q.0, λ same. new (x, y, subst (Contains (held_at old x y)) same q.2.held), least q.0 q.1));
 }
   where
-    least : (q : ℕ) → IsLeastIn b.arena held x y q → IsLeastKept b x y q
+    least : (q : ℕ) → IsLeastIn b.arena held x y q → IsLeastKeptId b x y q
     least q l = record {
       live = stored.heaps.fits.live x y q l.held;
       ends = stored.heaps.fits.ends x y q l.held;
@@ -157,7 +157,7 @@ tells_kept b held old historical pending x y id told stored tells new = record {
           | inr edge ↦ stored.heaps.held r x y edge ends
         ]
 
-pub least_single : (b : Book) → IsBook b → (x : ℕ) → x < b.arena.vertices → IsLeastKept b x x (vertex_of b.arena x)
+pub least_single : (b : Book) → IsBook b → (x : ℕ) → x < b.arena.vertices → IsLeastKeptId b x x (vertex_of b.arena x)
 least_single b was x l =
     let there : path_of b.arena (vertex_of b.arena x) ≡ single x = path_of_at b.arena (vertex_of b.arena x) (single x) (was.arena.singles x l) in
     let live : IsLive b.arena (vertex_of b.arena x) = live_from b.arena (vertex_of b.arena x) (single x) (was.arena.singles x l) in

@@ -67,7 +67,7 @@ pub record IsForgotten (old new : Book) (id : ℕ) : Type 0 where
   pub lists : IsDropped old.lists new.lists id (left_id (path_of old.arena id)) (right_id (path_of old.arena id))
 
 -- the single vertices are kept and historical, and nothing else is
-pub record IsOpening (b : Book) (n : ℕ) : Type 0 where
+pub record IsOpeningBook (b : Book) (n : ℕ) : Type 0 where
   pub vertices : b.arena.vertices ≡ n
   pub live : (id : ℕ) → IsLive b.arena id → (v : ℕ) × (v < n) × (id ≡ vertex_of b.arena v)
 
@@ -96,7 +96,7 @@ pub record IsBook (b : Book) : Type 0 where
 -- ---- what the book's readers give
 
 -- a kept path of the pair that no kept path of the pair is below
-pub record IsLeastKept (b : Book) (x y id : ℕ) : Type 0 where
+pub record IsLeastKeptId (b : Book) (x y id : ℕ) : Type 0 where
   pub live : IsLive b.arena id
   pub ends : HasEnds b.arena id x y
   pub least : (q : ℕ) → IsLive b.arena q → HasEnds b.arena q x y → id_cmp b.arena q id ≡ Less → ⊥
@@ -106,16 +106,16 @@ KeepsNone b x y = (q : ℕ) → IsLive b.arena q → HasEnds b.arena q x y → �
 
 -- whether a kept path is the least of its pair, where another one is if it is not
 pub record TellsLeastKept (b : Book) (x y id : ℕ) (told : Bool) : Type 0 where
-  pub yes : told ≡ true → IsLeastKept b x y id
-  pub no : told ≡ false → (q : ℕ) × (q ≢ id) × IsLeastKept b x y q
+  pub yes : told ≡ true → IsLeastKeptId b x y id
+  pub no : told ≡ false → (q : ℕ) × (q ≢ id) × IsLeastKeptId b x y q
 
 -- the least kept path of the pair, which is not historical
 abbrev pub IsPendingLeast : Book → ℕ → ℕ → ℕ → Type 0
-IsPendingLeast b x y id = IsLeastKept b x y id × (IsMarked b id → ⊥)
+IsPendingLeast b x y id = IsLeastKeptId b x y id × (IsMarked b id → ⊥)
 
 -- the pair has no kept path, or its least one is historical
 abbrev pub HasNoPendingLeast : Book → ℕ → ℕ → Type 0
-HasNoPendingLeast b x y = KeepsNone b x y ⊎ ((id : ℕ) × IsLeastKept b x y id × IsMarked b id)
+HasNoPendingLeast b x y = KeepsNone b x y ⊎ ((id : ℕ) × IsLeastKeptId b x y id × IsMarked b id)
 
 -- no pair of vertices has a least kept path that is not historical
 abbrev pub HasNonePending : Book → Type 0

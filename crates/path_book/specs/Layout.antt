@@ -1,12 +1,12 @@
 -- How a book lays out its parts. No public clause cites this module.
-use Rattle.std.specs.Prelude.{◌≡◌, ℕ, ◌+◌, ◌<◌, ◌≤◌, ◌^◌, ◌⊎◌, Bool, true, false, IsTrue, List, [], ◌∷◌, slice_index_or, Some, Contains}
+use Rattle.std.specs.Prelude.{◌≡◌, ℕ, ◌+◌, ◌<◌, ◌≤◌, ◌⊎◌, Bool, true, false, IsTrue, List, [], ◌∷◌, slice_index_or, Some, Contains}
 use Rattle.std.specs.Ordering.{nat_cmp}
 use Rattle.std.specs.FinSet as set
 use Rattle.apsp_model.specs.declared.TheConstants.{MOST_PATHS}
 use Rattle.apsp_model.specs.Walk.{IsOnceEach, last}
 use Rattle.apsp_model.specs.Counts.{CountIs}
 use Rattle.path_arena.specs.Arena.{Arena, HasAnEdge, vertex_of, list_of, left_of}
-use Rattle.pair_heaps.specs.Heaps.{Heaps, held_at, Fits, HasEnds}
+use Rattle.pair_heaps.specs.Heaps.{Heaps, held_at, HeapsFit, HasEnds}
 use Rattle.extension_lists.specs.Known.{Known, no_sides, IsKnown, sides_at}
 use Rattle.path_book.specs.Book.{Book, IsBook, IsPendingLeast, HasNoPendingLeast}
 use Rattle.path_book.specs.Dirty.{Dirty, is_dirty}
@@ -29,7 +29,7 @@ view_of b = record { arena = b.arena; marked = marked_in b.marks.items; lists = 
 
 -- each path with an edge is held once, of the pair of its ends, and nothing else is
 pub record HoldsPaths (a : Arena) (h : Heaps) : Type 0 where
-  pub fits : Fits h a
+  pub fits : HeapsFit h a
   pub held : (id x y : ℕ) → HasAnEdge a id → HasEnds a id x y → Contains (held_at h x y) id
   pub only : (id x y : ℕ) → Contains (held_at h x y) id → HasAnEdge a id
 

@@ -2,3 +2,4 @@ pub mod Book
 pub mod Dirty
 pub mod Layout
 pub mod Admitted
+pub mod Through

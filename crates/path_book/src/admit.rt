@@ -3,26 +3,26 @@
 ghost use Rattle.std.specs.Prelude.{◌≡◌, ℕ, ◌≤◌, Some, [], IfOk, OnOk, OnErr};
 ghost use Rattle.std.specs.FinMap as map;
 ghost use Rattle.path_arena.specs.Arena.{HasAnEdge, without_path, IsPartOfNone, IsArena};
-ghost use Rattle.pair_heaps.specs.Heaps.{IsHeld, TellsLeast};
+ghost use Rattle.pair_heaps.specs.Heaps.{HasEnds, IsHeld, TellsLeast};
+ghost use Rattle.pair_heaps.specs.Rooms.{IsRoomOf};
 ghost use Rattle.extension_lists.specs.Known.{IsKnown};
-ghost use Rattle.path_book.specs.Admitted.{StandsNowhere, CanEnter, HasRoom, IsAdmitted, IsKnownPath};
+ghost use Rattle.path_book.specs.Admitted.{StandsNowhere, CanEnter, HasRoomForPath, IsAdmitted, IsKnownPath};
 ghost use Rattle.path_book.specs.Book.{entered};
 ghost use Rattle.path_book.specs.Layout.{IsOpenedTo};
 
 use crate::marks::make_room;
 use apsp_model::Memory;
 use extension_lists::Lists;
-use pair_heaps::Heaps;
+use pair_heaps::{Heaps, Room};
 use path_arena::{Arena, PathId};
 
-/// A path that is new in the arena, with its parts and its ends.
+/// A path that is new in the arena, with its parts and the room in the heap of its pair.
 #[derive(Clone, Copy)]
 pub(crate) struct NewPath {
     pub(crate) id: PathId,
     pub(crate) left: PathId,
     pub(crate) right: PathId,
-    pub(crate) from: u32,
-    pub(crate) to: u32,
+    pub(crate) room: Room,
 }
 
 /// Puts a path that is new in the arena into the heap of its pair and the lists of its parts. Where
@@ -32,11 +32,14 @@ pub(crate) fn admit(
     heaps: &mut Heaps,
     lists: &mut Lists,
     id: PathId,
+    room: Room,
 ) -> Result<(), Memory>
     requires lawful { IsArena arena.old }
     requires edge { HasAnEdge arena.old id }
     requires free { IsPartOfNone arena.old id }
-    requires room { HasRoom arena.old heaps.old id }
+    requires room { HasRoomForPath arena.old heaps.old id }
+    requires here { IsRoomOf heaps.old room room.x room.y }
+    requires ends { HasEnds arena.old id room.x room.y }
     requires new { IsHeld heaps.old id → ⊥ }
     requires lists { CanEnter arena.old lists.old id }
     ensures kept { OnOk result (arena.new ≡ arena.old) }
@@ -49,14 +52,13 @@ pub(crate) fn admit(
         id,
         left: arena.left_part(id),
         right: arena.right_part(id),
-        from: arena.first(id),
-        to: arena.last(id),
+        room,
     };
     admit_known(arena, heaps, lists, path)?;
     Ok(())
 }
 
-/// The same for a path whose parts and ends are known. Says whether it is the least of its pair.
+/// The same for a path whose parts are known. Says whether it is the least of its pair.
 #[inline(always)]
 pub(crate) fn admit_known(
     arena: &mut Arena,
@@ -67,13 +69,15 @@ pub(crate) fn admit_known(
     requires lawful { IsArena arena.old }
     requires edge { HasAnEdge arena.old path.id }
     requires free { IsPartOfNone arena.old path.id }
-    requires room { HasRoom arena.old heaps.old path.id }
+    requires room { HasRoomForPath arena.old heaps.old path.id }
     requires new { IsHeld heaps.old path.id → ⊥ }
     requires lists { CanEnter arena.old lists.old path.id }
     requires known { IsKnownPath arena.old path }
+    requires here { IsRoomOf heaps.old path.room path.room.x path.room.y }
     ensures kept { OnOk result (arena.new ≡ arena.old) }
     ensures admitted { OnOk result (IsAdmitted arena.new heaps.old heaps.new lists.old lists.new path.id) }
-    ensures least { IfOk result (λ told. TellsLeast arena.new told heaps.new heaps.old path.id path.from path.to) }
+    ensures least { IfOk result
+        (λ told. TellsLeast arena.new told heaps.new heaps.old path.id path.room.x path.room.y) }
     ensures taken_back { OnErr result (arena.new ≡ without_path arena.old path.id) }
     ensures heaps_kept { OnErr result (heaps.new ≡ heaps.old) }
     ensures lists_kept { OnErr result (lists.new ≡ lists.old) }
@@ -82,9 +86,7 @@ pub(crate) fn admit_known(
         arena.remove(path.id);
         return Err(Memory);
     }
-    // There is room, so it takes none.
-    let told = heaps.insert_between(arena, path.id, path.from, path.to);
-    Ok(told.unwrap_or(false))
+    Ok(heaps.insert_into(arena, path.id, path.room))
 }
 
 /// Lets the lists know an id, as an extension of its two parts.

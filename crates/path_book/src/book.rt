@@ -6,20 +6,19 @@ ghost use Rattle.apsp_model.specs.Walk.{IsOnceEach, first, last};
 ghost use Rattle.apsp_model.specs.Paths.{IsKeptIn, HasBirthIn};
 ghost use Rattle.extension_lists.specs.Known.{IsStarred};
 ghost use Rattle.path_arena.specs.Arena.{path_at, path_of, list_of, IsLive, HasAnEdge, edge_path, joined_path, IsPartOfNone, CanJoin};
-ghost use Rattle.path_book.specs.Book.{IsBook, IsMarked, IsOpening, kept_paths, IsNewList, with_kept, with_mark, left_id, right_id, IsForgotten, IsLeastKept, KeepsNone, IsPendingLeast, HasNoPendingLeast, HasNonePending, TellsLeastKept, ArePendingLeasts, PathsCount, HistoricalCount};
+ghost use Rattle.path_book.specs.Through.{AreForgotten, IsVictims};
+ghost use Rattle.path_book.specs.Book.{IsBook, IsMarked, IsOpeningBook, kept_paths, IsNewList, with_kept, with_mark, left_id, right_id, IsForgotten, IsLeastKeptId, KeepsNone, IsPendingLeast, HasNoPendingLeast, HasNonePending, TellsLeastKept, ArePendingLeasts, PathsCount, HistoricalCount};
 
 use crate::admit::{NewPath, admit, admit_known, enter_vertices};
 use crate::dirty::Dirty;
-use crate::marks::{clear, is_marked, make_room};
-use apsp_model::{MOST_VERTICES, Memory};
+use crate::leave::{leave_left, leave_right};
+use crate::marks::{is_marked, make_room, uncount};
+use apsp_model::{MOST_PATHS, MOST_VERTICES, Memory};
 use extension_lists::Lists;
 use pair_heaps::Heaps;
 use path_arena::{Arena, PathId};
 use std::alloc::Global;
 use std::marker::Model;
-
-/// More paths than any machine has room for, so that every count fits.
-const MOST_PATHS: u64 = 1 << 48;
 
 /// A join that was kept.
 #[derive(Clone, Copy, Debug, PartialEq, Eq)]
@@ -67,7 +66,7 @@ impl Book {
     pub fn new(alloc: Global, n: u32) -> Result<Book, Memory>
         requires some { 1 ≤ n }
         requires most { n ≤ MOST_VERTICES }
-        ensures opening { IfOk result (λ b. IsOpening b n) }
+        ensures opening { IfOk result (λ b. IsOpeningBook b n) }
         ensures lawful { IfOk result IsBook }
     {
         let arena = Arena::new(alloc, n)?;
@@ -101,9 +100,9 @@ impl Book {
         if self.historical + self.pending == MOST_PATHS {
             return Err(Memory);
         }
-        self.heaps.reserve(u, v)?;
+        let room = self.heaps.reserve_room(u, v)?;
         let id = self.arena.edge(u, v, w, birth)?;
-        admit(&mut self.arena, &mut self.heaps, &mut self.lists, id)?;
+        admit(&mut self.arena, &mut self.heaps, &mut self.lists, id, room)?;
         self.dirty.note(u, v);
         self.pending += 1;
         Ok(id)
@@ -151,14 +150,13 @@ impl Book {
         if self.historical + self.pending == MOST_PATHS {
             return Err(Memory);
         }
-        self.heaps.reserve(from, to)?;
+        let room = self.heaps.reserve_room(from, to)?;
         let id = self.arena.join(l, r, birth)?;
         let path = NewPath {
             id,
             left: l,
             right: r,
-            from,
-            to,
+            room,
         };
         let is_least = admit_known(&mut self.arena, &mut self.heaps, &mut self.lists, path)?;
         self.dirty.note_all();
@@ -200,18 +198,51 @@ impl Book {
         self.heaps.remove(&self.arena, id);
         self.lists.drop_id(id, left, right);
         self.arena.remove(id);
-        if clear(&mut self.marks, id.key()) {
-            self.historical -= 1;
-        } else {
-            self.pending -= 1;
+        let marks = &mut self.marks;
+        uncount(marks, id.key(), &mut self.historical, &mut self.pending);
+    }
+
+    /// Forgets all paths through v, of which these are the ids, in rising hops.
+    ///
+    /// A part that passes v goes too, unless it is the single vertex. So a path leaves only the lists of
+    /// a part that stays: those of its right part where it starts at v, and those of its left part where
+    /// it ends there. Its own lists are emptied, and at the end those of v. This takes constant time for
+    /// each path, but for the searches in its pair and in those lists.
+    #[inline(never)]
+    pub fn forget_through(&mut self, v: u32, ids: &[PathId])
+        requires vertex { v < self.old.arena.vertices }
+        requires ids { IsVictims self.old v ids.now }
+        ensures forgotten { AreForgotten self.old self.new ids.now }
+        ensures lawful { IsBook self.new }
+    {
+        // The longest go first, so each is part of no other then.
+        let mut rest = ids;
+        'longest: while let Some((&id, shorter)) = rest.split_last() {
+            rest = shorter;
+            let (from, to) = (self.arena.first(id), self.arena.last(id));
+            let (left, right) = (self.arena.left_part(id), self.arena.right_part(id));
+            self.dirty.note(from, to);
+            let _ = self.heaps.remove_between(&self.arena, id, from, to);
+            leave_right(&mut self.lists, id, right, from == v);
+            leave_left(&mut self.lists, id, left, to == v);
+            self.lists.forget(id);
+            self.arena.remove(id);
+            let key = id.key();
+            uncount(
+                &mut self.marks,
+                key,
+                &mut self.historical,
+                &mut self.pending,
+            );
         }
+        self.lists.clear(self.arena.vertex(v));
     }
 
     /// The kept path of the pair that none of them is below. From x to x it is the single vertex.
     pub fn least(&self, x: u32, y: u32) -> Option<PathId>
         requires from { x < self.now.arena.vertices }
         requires to { y < self.now.arena.vertices }
-        ensures least { MatchOption result (KeepsNone self.now x y) (IsLeastKept self.now x y) }
+        ensures least { MatchOption result (KeepsNone self.now x y) (IsLeastKeptId self.now x y) }
         ensures lawful { IsBook self.now }
     {
         if x == y {
@@ -277,6 +308,13 @@ impl Book {
         ensures lawful { IsBook self.now }
     {
         is_marked(&self.marks, id.key())
+    }
+
+    /// Shows the prover that the book is lawful. It does nothing when it runs.
+    pub fn show_lawful(&self)
+        ensures { IsBook self.now }
+    {
+        let _ = &self.arena;
     }
 
     /// The records of the kept paths.

@@ -1,6 +1,6 @@
 //! Marks by key.
 
-ghost use Rattle.std.specs.Prelude.{◌≡◌, ◌+◌, ◌<◌, ◌^◌, false, OnOk, vec_len};
+ghost use Rattle.std.specs.Prelude.{◌≡◌, ◌+◌, ◌-◌, ◌<◌, ◌≤◌, ◌^◌, false, if◌then◌else◌, OnOk, vec_len};
 ghost use Rattle.std.specs.FinSet as set;
 ghost use Rattle.path_book.specs.Layout.{marked_in, mark_at};
 
@@ -26,7 +26,7 @@ pub(crate) fn is_marked(marks: &[bool], key: usize) -> bool
 }
 
 /// Takes the mark of a key away, and says whether it had one.
-pub(crate) fn clear(marks: &mut Vec<bool>, key: usize) -> bool
+fn clear(marks: &mut Vec<bool>, key: usize) -> bool
     ensures was { result ≡ mark_at marks.old.items key }
     ensures cleared { marked_in marks.new.items ≡ set.remove (marked_in marks.old.items) key }
 {
@@ -35,4 +35,20 @@ pub(crate) fn clear(marks: &mut Vec<bool>, key: usize) -> bool
         marks[key] = false;
     }
     was
+}
+
+/// Takes the mark of a key away, and one off the number of the marked ones, where it had one, or else
+/// of the unmarked ones.
+#[inline(always)]
+pub(crate) fn uncount(marks: &mut Vec<bool>, key: usize, marked: &mut u64, unmarked: &mut u64)
+    requires { 1 ≤ (if mark_at marks.old.items key then marked.old else unmarked.old) }
+    ensures cleared { marked_in marks.new.items ≡ set.remove (marked_in marks.old.items) key }
+    ensures marked { marked.new ≡ (if mark_at marks.old.items key then marked.old - 1 else marked.old) }
+    ensures unmarked { unmarked.new ≡ (if mark_at marks.old.items key then unmarked.old else unmarked.old - 1) }
+{
+    if clear(marks, key) {
+        *marked -= 1;
+    } else {
+        *unmarked -= 1;
+    }
 }

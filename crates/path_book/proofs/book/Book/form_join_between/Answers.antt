@@ -5,23 +5,23 @@ use Rattle.path_book.specs.Book.{Book, IsMarked, with_kept, IsNewList, IsBook}
 use Rattle.path_book.specs.Layout.{view_of, IsStored, IsClean}
 use Rattle.path_book.specs.Dirty.{Dirty}
 use Rattle.path_book.proofs.Formed.{IsNew}
-use Rattle.path_book.proofs.Forms.{join_known, stored_reserved, AsksMet, asks_met, IsFormed, is_formed, is_taken_back, on_err, new_join, join_ends}
+use Rattle.path_book.proofs.Forms.{join_known, stored_reserved, AsksMet, asks_met, IsFormed, is_formed, is_taken_back, on_err, new_join, join_ends, own_room, told_at}
 use Rattle.path_book.proofs.Readers.{tells_kept}
 use Rattle.path_book.proofs.Clean.{clean_all}
 use Rattle.path_book.proofs.book.Book.form_join_between.Goals as goal
 
-pub reserve-requires : goal.reserve-requires
-reserve-requires c =
+pub reserve_room-requires : goal.reserve_room-requires
+reserve_room-requires c =
     let ends = join_ends c.self.inside.arena c.self.inside.heaps c.args.l c.args.r 0 _ _ c.self.invariant.stored.book.arena c.self.invariant.stored.heaps.fits (subst (λ (b : Book). CanJoin b.arena c.args.l c.args.r) (sym c.self.view_is) c.requires.join) (subst (λ (b : Book). first (list_of b.arena c.args.l) ≡ Some c.args.from) (sym c.self.view_is) c.requires.from) (subst (λ (b : Book). last (list_of b.arena c.args.r) ≡ Some c.args.to) (sym c.self.view_is) c.requires.to) in
     record { from = ends.from; to = ends.to }
 
 -- after there is room in the heap
-reserved : (c : goal.After-from_residual-in_err-id) → IsStored (view_of c.self.inside) c.reserve.new.self c.self.inside.historical c.self.inside.pending
-reserved c = stored_reserved (view_of c.self.inside) c.self.inside.heaps c.reserve.new.self c.args.from c.args.to _ _ c.self.invariant.stored (c.reserve.ensures.fits c.self.inside.arena).0 c.in_ok-reserve.ensures.ok
+reserved : (c : goal.After-from_residual-in_err-id) → IsStored (view_of c.self.inside) c.reserve_room.new.self c.self.inside.historical c.self.inside.pending
+reserved c = stored_reserved (view_of c.self.inside) c.self.inside.heaps c.reserve_room.new.self c.args.from c.args.to _ _ c.self.invariant.stored (c.reserve_room.ensures.fits c.self.inside.arena).0 c.in_ok-room.ensures.ok
 
 pub invariant_of-self-in_err-id : goal.invariant_of-self-in_err-id
 invariant_of-self-in_err-id c = record {
-  stored = subst (λ (a : Arena). IsStored (record { arena = a; marked = (view_of c.self.inside).marked; lists = c.self.inside.lists }) c.reserve.new.self c.self.inside.historical c.self.inside.pending) (sym c.in_err-id.ensures.memory) (reserved c);
+  stored = subst (λ (a : Arena). IsStored (record { arena = a; marked = (view_of c.self.inside).marked; lists = c.self.inside.lists }) c.reserve_room.new.self c.self.inside.historical c.self.inside.pending) (sym c.in_err-id.ensures.memory) (reserved c);
   dirty = subst (λ (a : Arena). IsClean (record { arena = a; marked = (view_of c.self.inside).marked; lists = c.self.inside.lists }) c.self.inside.dirty) (sym c.in_err-id.ensures.memory) c.self.invariant.dirty;
 }
 
@@ -34,8 +34,8 @@ admit_known-requires c =
     c.in_ok-id.ensures.fresh (subst (λ (b : Book). IsNewList b (joined_path b.arena c.args.l c.args.r c.args.birth).list) (sym c.self.view_is) c.requires.new)
     (subst IsArena c.in_ok-id.ensures.added c.in_ok-id.ensures.lawful) in
     let ends = join_ends c.self.inside.arena c.self.inside.heaps c.args.l c.args.r c.args.birth _ _ c.self.invariant.stored.book.arena c.self.invariant.stored.heaps.fits (subst (λ (b : Book). CanJoin b.arena c.args.l c.args.r) (sym c.self.view_is) c.requires.join) (subst (λ (b : Book). first (list_of b.arena c.args.l) ≡ Some c.args.from) (sym c.self.view_is) c.requires.from) (subst (λ (b : Book). last (list_of b.arena c.args.r) ≡ Some c.args.to) (sym c.self.view_is) c.requires.to) in
-    let a : AsksMet (view_of c.self.inside) c.join.new.self c.reserve.new.self c.in_ok-id.id =
-    asks_met (view_of c.self.inside) c.in_ok-id.id _ c.self.inside.heaps c.reserve.new.self c.args.from c.args.to _ _ c.join.new.self c.self.invariant.stored new c.in_ok-id.ensures.added (c.reserve.ensures.fits c.self.inside.arena).0 c.in_ok-reserve.ensures.ok ends.begins ends.finishes in
+    let a : AsksMet (view_of c.self.inside) c.join.new.self c.reserve_room.new.self c.in_ok-id.id =
+    asks_met (view_of c.self.inside) c.in_ok-id.id _ c.self.inside.heaps c.reserve_room.new.self c.args.from c.args.to _ _ c.join.new.self c.self.invariant.stored new c.in_ok-id.ensures.added (c.reserve_room.ensures.fits c.self.inside.arena).0 c.in_ok-room.ensures.ok ends.begins ends.finishes in
     record {
       lawful = a.lawful;
       edge = a.edge;
@@ -43,7 +43,8 @@ admit_known-requires c =
       room = a.room;
       new = a.new;
       lists = a.lists;
-      known = join_known (view_of c.self.inside) c.in_ok-id.id c.args.l c.args.r c.args.birth c.args.from c.args.to c.join.new.self c.self.invariant.stored.book new c.in_ok-id.ensures.added ends.begins ends.finishes;
+      known = join_known (view_of c.self.inside) c.in_ok-id.id c.args.l c.args.r c.args.birth c.in_ok-room.room c.join.new.self c.self.invariant.stored.book new c.in_ok-id.ensures.added (ends.begins ∙ ap Some (sym c.in_ok-room.ensures.room.x_is)) (ends.finishes ∙ ap Some (sym c.in_ok-room.ensures.room.y_is));
+      here = own_room c.reserve_room.new.self c.in_ok-room.room c.args.from c.args.to c.in_ok-room.ensures.room;
     }
 
 -- without memory for it the book is as before
@@ -55,7 +56,7 @@ invariant_of-self-in_err-is_least c = record {
   stored =
       subst (λ (b : Book). IsStored b c.admit_known.new.heaps c.self.inside.historical c.self.inside.pending) (sym (as_before c))
       (subst (λ h. IsStored (view_of c.self.inside) h c.self.inside.historical c.self.inside.pending) (sym c.in_err-is_least.ensures.heaps_kept)
-      (stored_reserved (view_of c.self.inside) c.self.inside.heaps c.reserve.new.self c.args.from c.args.to _ _ c.self.invariant.stored (c.reserve.ensures.fits c.self.inside.arena).0 c.in_ok-reserve.ensures.ok));
+      (stored_reserved (view_of c.self.inside) c.self.inside.heaps c.reserve_room.new.self c.args.from c.args.to _ _ c.self.invariant.stored (c.reserve_room.ensures.fits c.self.inside.arena).0 c.in_ok-room.ensures.ok));
   dirty = subst (λ (b : Book). IsClean b c.self.inside.dirty) (sym (as_before c)) c.self.invariant.dirty;
 }
 
@@ -77,8 +78,8 @@ made c =
 -- with memory it is formed
 formed : (c : goal.After-self-1) → IsFormed (view_of c.self.inside) c.admit_known.new.arena c.admit_known.new.lists c.admit_known.new.heaps c.in_ok-id.id (joined_path c.self.inside.arena c.args.l c.args.r c.args.birth) c.self.inside.historical c.self.inside.pending
 formed c =
-    is_formed (view_of c.self.inside) c.in_ok-id.id _ c.reserve.new.self c.admit_known.new.heaps _ _ c.join.new.self c.admit_known.new.arena c.admit_known.new.lists
-    (stored_reserved (view_of c.self.inside) c.self.inside.heaps c.reserve.new.self c.args.from c.args.to _ _ c.self.invariant.stored (c.reserve.ensures.fits c.self.inside.arena).0 c.in_ok-reserve.ensures.ok)
+    is_formed (view_of c.self.inside) c.in_ok-id.id _ c.reserve_room.new.self c.admit_known.new.heaps _ _ c.join.new.self c.admit_known.new.arena c.admit_known.new.lists
+    (stored_reserved (view_of c.self.inside) c.self.inside.heaps c.reserve_room.new.self c.args.from c.args.to _ _ c.self.invariant.stored (c.reserve_room.ensures.fits c.self.inside.arena).0 c.in_ok-room.ensures.ok)
     (made c)
     c.in_ok-id.ensures.added c.in_ok-is_least.ensures.kept c.in_ok-is_least.ensures.admitted
     (let most : c.self.inside.historical + c.self.inside.pending ≤ 2 ^ 48 = c.self.invariant.stored.most in let apart : c.self.inside.historical + c.self.inside.pending ≢ 2 ^ 48 = c.if-self-eq-MOST_PATHS.false in omega arith)
@@ -107,6 +108,6 @@ returns-clause-least c =
     c.in_ok-id.ensures.fresh (subst (λ (b : Book). IsNewList b (joined_path b.arena c.args.l c.args.r c.args.birth).list) (sym c.self.view_is) c.requires.new)
     (subst IsArena c.in_ok-id.ensures.added c.in_ok-id.ensures.lawful) in
     let ends = join_ends c.self.inside.arena c.self.inside.heaps c.args.l c.args.r c.args.birth _ _ c.self.invariant.stored.book.arena c.self.invariant.stored.heaps.fits (subst (λ (b : Book). CanJoin b.arena c.args.l c.args.r) (sym c.self.view_is) c.requires.join) (subst (λ (b : Book). first (list_of b.arena c.args.l) ≡ Some c.args.from) (sym c.self.view_is) c.requires.from) (subst (λ (b : Book). last (list_of b.arena c.args.r) ≡ Some c.args.to) (sym c.self.view_is) c.requires.to) in
-    let a : AsksMet (view_of c.self.inside) c.join.new.self c.reserve.new.self c.in_ok-id.id =
-    asks_met (view_of c.self.inside) c.in_ok-id.id _ c.self.inside.heaps c.reserve.new.self c.args.from c.args.to _ _ c.join.new.self c.self.invariant.stored new c.in_ok-id.ensures.added (c.reserve.ensures.fits c.self.inside.arena).0 c.in_ok-reserve.ensures.ok ends.begins ends.finishes in
-    tells_kept _ c.admit_known.new.heaps c.reserve.new.self _ _ c.args.from c.args.to c.in_ok-id.id c.in_ok-is_least.is_least (formed c).stored c.in_ok-is_least.ensures.least a.new
+    let a : AsksMet (view_of c.self.inside) c.join.new.self c.reserve_room.new.self c.in_ok-id.id =
+    asks_met (view_of c.self.inside) c.in_ok-id.id _ c.self.inside.heaps c.reserve_room.new.self c.args.from c.args.to _ _ c.join.new.self c.self.invariant.stored new c.in_ok-id.ensures.added (c.reserve_room.ensures.fits c.self.inside.arena).0 c.in_ok-room.ensures.ok ends.begins ends.finishes in
+    tells_kept _ c.admit_known.new.heaps c.reserve_room.new.self _ _ c.args.from c.args.to c.in_ok-id.id c.in_ok-is_least.is_least (formed c).stored (told_at c.reserve_room.new.self c.in_ok-room.room c.args.from c.args.to _ c.in_ok-is_least.is_least c.admit_known.new.heaps c.reserve_room.new.self c.in_ok-id.id c.in_ok-room.ensures.room c.in_ok-is_least.ensures.least) a.new
