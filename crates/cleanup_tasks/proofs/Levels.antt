@@ -12,9 +12,11 @@ use Rattle.path_arena.proofs.Paths.{live_path, live_from_edge}
 use Rattle.extension_lists.specs.Known.{sides_at}
 use Rattle.path_book.specs.Book.{Book, IsBook}
 use Rattle.path_book.proofs.Tables.{in_entries, to_map}
-use Rattle.cleanup_tasks.specs.Victims.{IsThrough, hops_at, IsRising, IsVictims}
-use Rattle.cleanup_tasks.specs.Walk.{starts_at, lefts_of, rights_of, IsLonger}
-use Rattle.cleanup_tasks.proofs.Parents.{Passes, IsChild, longer_exact, ChildFacts, child_facts, ParentOf, parent_of, one_parent, ends_apart, single_or_through, single_passes, some_hops, single_starts}
+use Rattle.path_book.specs.Through.{IsThrough, hops_at, InRisingHops, IsVictims}
+use Rattle.cleanup_tasks.specs.declared.search.Side.{Side}
+use Rattle.cleanup_tasks.specs.declared.search.Side.TheVariants.{Left, Right}
+use Rattle.cleanup_tasks.specs.Walk.{starts_at, side_of, extensions_of, AreExtensions}
+use Rattle.cleanup_tasks.proofs.Parents.{PassesThrough, IsExtensionFrom, longer_exact, ChildFacts, child_facts, ParentOf, parent_of, one_parent, ends_apart, single_or_through, single_passes, some_hops, single_starts}
 
 -- ---- lists
 
@@ -56,45 +58,34 @@ once_is_short (x ∷ xs) ys once inside =
     let e : length ys ≡ length w.rest + 1 = w.shorter in
     omega arith
 
--- ---- what is found
-
-pub victims_live : (b : Book) → IsBook b → (v : ℕ) (ids : List ℕ) → IsVictims b v ids → (id : ℕ) → Contains ids id → IsLive b.arena id
-victims_live b was v ids victims id c = live_from_edge b.arena id was.arena ((victims.exact id).0 c).0
-
 -- ---- rising hops
 
-pub rising_append : (b : Book) (xs ys : List ℕ) → IsRising b xs → IsRising b ys → ((x y : ℕ) → Contains xs x → Contains ys y → hops_at b x ≤ hops_at b y) → IsRising b (xs ++ ys)
+pub rising_append : (b : Book) (xs ys : List ℕ) → InRisingHops b xs → InRisingHops b ys → ((x y : ℕ) → Contains xs x → Contains ys y → hops_at b x ≤ hops_at b y) → InRisingHops b (xs ++ ys)
 rising_append b [] ys a c across = c
 rising_append b (x ∷ xs) ys a c across = (
   λ q k. elim (Contains-append_cases xs ys q k) [ inl left ↦ a.0 q left | inr right ↦ across x q (head_in x x xs refl) right ],
   rising_append b xs ys a.1 c (λ y z left right. across y z (tail_in y x xs left) right),
 )
 
-pub rising_alike : (b : Book) (xs : List ℕ) (h : ℕ) → ((x : ℕ) → Contains xs x → hops_at b x ≡ h) → IsRising b xs
+pub rising_alike : (b : Book) (xs : List ℕ) (h : ℕ) → ((x : ℕ) → Contains xs x → hops_at b x ≡ h) → InRisingHops b xs
 rising_alike b [] h alike = tt
 rising_alike b (x ∷ xs) h alike = (
   λ q c. (let e : hops_at b x ≡ h = alike x (head_in x x xs refl) in let f : hops_at b q ≡ h = alike q (tail_in q x xs c) in omega arith),
   rising_alike b xs h (λ y c. alike y (tail_in y x xs c)),
 )
 
--- ---- the paths that go on behind or in front of those of a list
+-- ---- the paths that go on at a side of those of a list
 
-pub rights_append : (b : Book) (xs ys : List ℕ) → rights_of b (xs ++ ys) ≡ rights_of b xs ++ rights_of b ys
-rights_append b [] ys = refl
-rights_append b (x ∷ xs) ys = ap (λ l. (sides_at b.lists x).right ++ l) (rights_append b xs ys) ∙ sym (append_assoc (sides_at b.lists x).right (rights_of b xs) (rights_of b ys))
-
-pub lefts_append : (b : Book) (xs ys : List ℕ) → lefts_of b (xs ++ ys) ≡ lefts_of b xs ++ lefts_of b ys
-lefts_append b [] ys = refl
-lefts_append b (x ∷ xs) ys = ap (λ l. (sides_at b.lists x).left ++ l) (lefts_append b xs ys) ∙ sym (append_assoc (sides_at b.lists x).left (lefts_of b xs) (lefts_of b ys))
+pub extensions_append : (side : Side) (b : Book) (xs ys : List ℕ) → extensions_of side b (xs ++ ys) ≡ extensions_of side b xs ++ extensions_of side b ys
+extensions_append side b [] ys = refl
+extensions_append side b (x ∷ xs) ys =
+    let here : List ℕ = side_of side (sides_at b.lists x) in
+    ap (λ l. here ++ l) (extensions_append side b xs ys) ∙ sym (append_assoc here (extensions_of side b xs) (extensions_of side b ys))
 
 -- .. and those of one path more
-pub rights_more : (b : Book) (xs : List ℕ) (i x : ℕ) → i < length xs → x ≡ get_or xs i x → rights_of b (take i xs) ++ (sides_at b.lists x).right ≡ rights_of b (take (i + 1) xs)
-rights_more b xs i x inside at =
-    sym (ap (rights_of b) (take_push xs i x inside at) ∙ rights_append b (take i xs) (x ∷ []) ∙ ap (λ l. rights_of b (take i xs) ++ l) (append-nil (sides_at b.lists x).right))
-
-pub lefts_more : (b : Book) (xs : List ℕ) (i x : ℕ) → i < length xs → x ≡ get_or xs i x → lefts_of b (take i xs) ++ (sides_at b.lists x).left ≡ lefts_of b (take (i + 1) xs)
-lefts_more b xs i x inside at =
-    sym (ap (lefts_of b) (take_push xs i x inside at) ∙ lefts_append b (take i xs) (x ∷ []) ∙ ap (λ l. lefts_of b (take i xs) ++ l) (append-nil (sides_at b.lists x).left))
+pub extensions_more : (side : Side) (b : Book) (xs : List ℕ) (i x : ℕ) → i < length xs → x ≡ get_or xs i x → extensions_of side b (take i xs) ++ side_of side (sides_at b.lists x) ≡ extensions_of side b (take (i + 1) xs)
+extensions_more side b xs i x inside at =
+    sym (ap (extensions_of side b) (take_push xs i x inside at) ∙ extensions_append side b (take i xs) (x ∷ []) ∙ ap (λ l. extensions_of side b (take i xs) ++ l) (append-nil (side_of side (sides_at b.lists x))))
 
 -- what holds of the first entries and of the next
 pub each_more : (P : ℕ → Type 0) (xs : List ℕ) (i x : ℕ) → i < length xs → x ≡ get_or xs i x → ((y : ℕ) → Contains (take i xs) y → P y) → P x → (y : ℕ) → Contains (take (i + 1) xs) y → P y
@@ -103,33 +94,26 @@ each_more P xs i x inside at old new y c = elim (Contains-append_cases (take i x
   | inr here ↦ elim (in_cons y x [] here) [ inl same ↦ subst P same new | inr none ↦ absurd (in_nil y none) ]
 ]
 
-in_rights : (b : Book) (xs : List ℕ) (p q : ℕ) → Contains xs p → Contains (sides_at b.lists p).right q → Contains (rights_of b xs) q
-in_rights b [] p q at c = absurd (in_nil p at)
-in_rights b (x ∷ xs) p q at c = elim (in_cons p x xs at) [
-  | inl same ↦ Contains-append_left (sides_at b.lists x).right (rights_of b xs) q (subst (λ k. Contains (sides_at b.lists k).right q) (sym same) c)
-  | inr more ↦ Contains-append_right (sides_at b.lists x).right (rights_of b xs) q (in_rights b xs p q more c)
+in_extensions : (side : Side) (b : Book) (xs : List ℕ) (p q : ℕ) → Contains xs p → Contains (side_of side (sides_at b.lists p)) q → Contains (extensions_of side b xs) q
+in_extensions side b [] p q at c = absurd (in_nil p at)
+in_extensions side b (x ∷ xs) p q at c = elim (in_cons p x xs at) [
+  | inl same ↦ Contains-append_left (side_of side (sides_at b.lists x)) (extensions_of side b xs) q (subst (λ k. Contains (side_of side (sides_at b.lists k)) q) (sym same) c)
+  | inr more ↦ Contains-append_right (side_of side (sides_at b.lists x)) (extensions_of side b xs) q (in_extensions side b xs p q more c)
 ]
 
-in_lefts : (b : Book) (xs : List ℕ) (p q : ℕ) → Contains xs p → Contains (sides_at b.lists p).left q → Contains (lefts_of b xs) q
-in_lefts b [] p q at c = absurd (in_nil p at)
-in_lefts b (x ∷ xs) p q at c = elim (in_cons p x xs at) [
-  | inl same ↦ Contains-append_left (sides_at b.lists x).left (lefts_of b xs) q (subst (λ k. Contains (sides_at b.lists k).left q) (sym same) c)
-  | inr more ↦ Contains-append_right (sides_at b.lists x).left (lefts_of b xs) q (in_lefts b xs p q more c)
-]
-
-of_rights : (b : Book) (xs : List ℕ) (q : ℕ) → Contains (rights_of b xs) q → (p : ℕ) × Contains xs p × Contains (sides_at b.lists p).right q
-of_rights b [] q c = absurd (in_nil q c)
-of_rights b (x ∷ xs) q c = elim (Contains-append_cases (sides_at b.lists x).right (rights_of b xs) q c) [
+of_extensions : (side : Side) (b : Book) (xs : List ℕ) (q : ℕ) → Contains (extensions_of side b xs) q → (p : ℕ) × Contains xs p × Contains (side_of side (sides_at b.lists p)) q
+of_extensions side b [] q c = absurd (in_nil q c)
+of_extensions side b (x ∷ xs) q c = elim (Contains-append_cases (side_of side (sides_at b.lists x)) (extensions_of side b xs) q c) [
   | inl here ↦ (x, head_in x x xs refl, here)
-  | inr more ↦ (let k = of_rights b xs q more in (k.0, tail_in k.0 x xs k.1, k.2))
+  | inr more ↦ (let k = of_extensions side b xs q more in (k.0, tail_in k.0 x xs k.1, k.2))
 ]
 
-of_lefts : (b : Book) (xs : List ℕ) (q : ℕ) → Contains (lefts_of b xs) q → (p : ℕ) × Contains xs p × Contains (sides_at b.lists p).left q
-of_lefts b [] q c = absurd (in_nil q c)
-of_lefts b (x ∷ xs) q c = elim (Contains-append_cases (sides_at b.lists x).left (lefts_of b xs) q c) [
-  | inl here ↦ (x, head_in x x xs refl, here)
-  | inr more ↦ (let k = of_lefts b xs q more in (k.0, tail_in k.0 x xs k.1, k.2))
-]
+-- where no path goes on at this side of two, each of those that go on stands once
+extensions_once : (side : Side) (b : Book) → ((q p r : ℕ) → Contains (side_of side (sides_at b.lists p)) q → Contains (side_of side (sides_at b.lists r)) q → p ≡ r) → (xs : List ℕ) → IsOnceEach xs → ((p : ℕ) → Contains xs p → IsOnceEach (side_of side (sides_at b.lists p))) → IsOnceEach (extensions_of side b xs)
+extensions_once side b one [] once each = tt
+extensions_once side b one (x ∷ xs) once each =
+    once_append (side_of side (sides_at b.lists x)) (extensions_of side b xs) (each x (head_in x x xs refl)) (extensions_once side b one xs once.1 (λ p c. each p (tail_in p x xs c)))
+    (λ q here more. (let k = of_extensions side b xs q more in once.0 (subst (Contains xs) (one q k.0 x k.2 here) k.1)))
 
 module _ (b : Book) (was : IsBook b) where
   right_is : (p q : ℕ) → Contains (sides_at b.lists p).right q → left_of b.arena q ≡ Some p
@@ -144,56 +128,48 @@ module _ (b : Book) (was : IsBook b) where
   one_right : (q p r : ℕ) → right_of b.arena q ≡ Some p → right_of b.arena q ≡ Some r → p ≡ r
   one_right q p r e f = (let two : Some p ≡ Some r = sym e ∙ f in cc)
 
-  rights_once : (xs : List ℕ) → IsOnceEach xs → ((p : ℕ) → Contains xs p → IsOnceEach (sides_at b.lists p).right) → IsOnceEach (rights_of b xs)
-  rights_once [] once each = tt
-  rights_once (x ∷ xs) once each = once_append (sides_at b.lists x).right (rights_of b xs) (each x (head_in x x xs refl)) (rights_once xs once.1 (λ p c. each p (tail_in p x xs c))) (λ q here more. (
-      let k = of_rights b xs q more in
-      once.0 (subst (Contains xs) (one_left q k.0 x (right_is k.0 q k.2) (right_is x q here)) k.1)
-      ))
+  rights_once : (xs : List ℕ) → IsOnceEach xs → ((p : ℕ) → Contains xs p → IsOnceEach (sides_at b.lists p).right) → IsOnceEach (extensions_of Right b xs)
+  rights_once = extensions_once Right b (λ q p r c d. one_left q p r (right_is p q c) (right_is r q d))
 
-  lefts_once : (xs : List ℕ) → IsOnceEach xs → ((p : ℕ) → Contains xs p → IsOnceEach (sides_at b.lists p).left) → IsOnceEach (lefts_of b xs)
-  lefts_once [] once each = tt
-  lefts_once (x ∷ xs) once each = once_append (sides_at b.lists x).left (lefts_of b xs) (each x (head_in x x xs refl)) (lefts_once xs once.1 (λ p c. each p (tail_in p x xs c))) (λ q here more. (
-      let k = of_lefts b xs q more in
-      once.0 (subst (Contains xs) (one_right q k.0 x (left_is k.0 q k.2) (left_is x q here)) k.1)
-      ))
+  lefts_once : (xs : List ℕ) → IsOnceEach xs → ((p : ℕ) → Contains xs p → IsOnceEach (sides_at b.lists p).left) → IsOnceEach (extensions_of Left b xs)
+  lefts_once = extensions_once Left b (λ q p r c d. one_right q p r (left_is p q c) (left_is r q d))
 
   -- paths that pass v, of which the first start there and the others do not, and their children
-  module _ (v : ℕ) (starting passing behind in_front : List ℕ) (l : IsLonger b starting passing behind in_front)
-      (passes : (p : ℕ) → Contains (starting ++ passing) p → Passes b v p)
+  module _ (v : ℕ) (starting passing behind in_front : List ℕ) (l : AreExtensions b starting passing behind in_front)
+      (passes : (p : ℕ) → Contains (starting ++ passing) p → PassesThrough b v p)
       (starts : (p : ℕ) → Contains starting p → starts_at b v p ≡ true)
       (away : (p : ℕ) → Contains passing p → starts_at b v p ≡ false)
       (once : IsOnceEach (starting ++ passing)) where
-    front_is : in_front ≡ lefts_of b (starting ++ passing)
-    front_is = l.lefts ∙ sym (lefts_append b starting passing)
+    front_is : in_front ≡ extensions_of Left b (starting ++ passing)
+    front_is = l.lefts ∙ sym (extensions_append Left b starting passing)
 
     parent_behind : (q : ℕ) → Contains behind q → (p : ℕ) × Contains starting p × Contains (sides_at b.lists p).right q
-    parent_behind q c = of_rights b starting q (subst (λ xs. Contains xs q) l.rights c)
+    parent_behind q c = of_extensions Right b starting q (subst (λ xs. Contains xs q) l.rights c)
 
     parent_front : (q : ℕ) → Contains in_front q → (p : ℕ) × Contains (starting ++ passing) p × Contains (sides_at b.lists p).left q
-    parent_front q c = of_lefts b (starting ++ passing) q (subst (λ xs. Contains xs q) front_is c)
+    parent_front q c = of_extensions Left b (starting ++ passing) q (subst (λ xs. Contains xs q) front_is c)
 
-    child_behind : (p q : ℕ) → Contains starting p → Contains (sides_at b.lists p).right q → IsChild b v p q
+    child_behind : (p q : ℕ) → Contains starting p → Contains (sides_at b.lists p).right q → IsExtensionFrom b v p q
     child_behind p q at c =
         (longer_exact b was v p q (passes p (Contains-append_left starting passing p at))).0
         (Contains-append_right (sides_at b.lists p).left (if starts_at b v p then (sides_at b.lists p).right else []) q (subst (λ (t : Bool). Contains (if t then (sides_at b.lists p).right else []) q) (sym (starts p at)) c))
 
-    child_front : (p q : ℕ) → Contains (starting ++ passing) p → Contains (sides_at b.lists p).left q → IsChild b v p q
+    child_front : (p q : ℕ) → Contains (starting ++ passing) p → Contains (sides_at b.lists p).left q → IsExtensionFrom b v p q
     child_front p q at c = (longer_exact b was v p q (passes p at)).0 (Contains-append_left (sides_at b.lists p).left (if starts_at b v p then (sides_at b.lists p).right else []) q c)
 
-    pub new_parent : (q : ℕ) → Contains (behind ++ in_front) q → (p : ℕ) × Contains (starting ++ passing) p × IsChild b v p q
+    pub new_parent : (q : ℕ) → Contains (behind ++ in_front) q → (p : ℕ) × Contains (starting ++ passing) p × IsExtensionFrom b v p q
     new_parent q c = elim (Contains-append_cases behind in_front q c) [
       | inl left ↦ (let k = parent_behind q left in (k.0, Contains-append_left starting passing k.0 k.1, child_behind k.0 q k.1 k.2))
       | inr right ↦ (let k = parent_front q right in (k.0, k.1, child_front k.0 q k.1 k.2))
     ]
 
-    pub new_child : (p q : ℕ) → Contains (starting ++ passing) p → IsChild b v p q → Contains (behind ++ in_front) q
+    pub new_child : (p q : ℕ) → Contains (starting ++ passing) p → IsExtensionFrom b v p q → Contains (behind ++ in_front) q
     new_child p q at child = elim (Contains-append_cases (sides_at b.lists p).left (if starts_at b v p then (sides_at b.lists p).right else []) q ((longer_exact b was v p q (passes p at)).1 child)) [
-      | inl left ↦ Contains-append_right behind in_front q (subst (λ xs. Contains xs q) (sym front_is) (in_lefts b (starting ++ passing) p q at left))
+      | inl left ↦ Contains-append_right behind in_front q (subst (λ xs. Contains xs q) (sym front_is) (in_extensions Left b (starting ++ passing) p q at left))
       | inr right ↦ elim (Contains-append_cases starting passing p at) [
         | inl here ↦
             let c : Contains (sides_at b.lists p).right q = subst (λ (t : Bool). Contains (if t then (sides_at b.lists p).right else []) q) (starts p here) right in
-            Contains-append_left behind in_front q (subst (λ xs. Contains xs q) (sym l.rights) (in_rights b starting p q here c))
+            Contains-append_left behind in_front q (subst (λ xs. Contains xs q) (sym l.rights) (in_extensions Right b starting p q here c))
         | inr there ↦ absurd (in_nil q (subst (λ (t : Bool). Contains (if t then (sides_at b.lists p).right else []) q) (away p there) right))
       ]
     ]
@@ -237,13 +213,13 @@ module _ (b : Book) (was : IsBook b) where
 pub record IsWalked (b : Book) (v : ℕ) (done starting passing : List ℕ) (h : ℕ) : Type 0 where
   pub sound : (q : ℕ) → Contains (done ++ (starting ++ passing)) q → IsThrough b v q
   pub once : IsOnceEach (done ++ (starting ++ passing))
-  pub rising : IsRising b (done ++ (starting ++ passing))
+  pub rising : InRisingHops b (done ++ (starting ++ passing))
   pub starts : (q : ℕ) → Contains starting q → starts_at b v q ≡ true
   pub away : (q : ℕ) → Contains passing q → starts_at b v q ≡ false
   pub hops : (q : ℕ) → Contains (starting ++ passing) q → hops_at b q ≡ h
   pub below : (q : ℕ) → Contains done q → hops_at b q < h
-  pub from : (q p : ℕ) → Contains (done ++ (starting ++ passing)) q → IsChild b v p q → (p ≡ vertex_of b.arena v) ⊎ Contains done p
-  pub to : (q p : ℕ) → IsChild b v p q → (p ≡ vertex_of b.arena v) ⊎ Contains done p → Contains (done ++ (starting ++ passing)) q
+  pub from : (q p : ℕ) → Contains (done ++ (starting ++ passing)) q → IsExtensionFrom b v p q → (p ≡ vertex_of b.arena v) ⊎ Contains done p
+  pub to : (q p : ℕ) → IsExtensionFrom b v p q → (p ≡ vertex_of b.arena v) ⊎ Contains done p → Contains (done ++ (starting ++ passing)) q
 
 -- .. the ids are these
 pub record HasWalked (b : Book) (v : ℕ) (starting passing ids : List ℕ) : Type 0 where
@@ -256,10 +232,10 @@ module _ (b : Book) (was : IsBook b) (v : ℕ) (inside : v < b.arena.vertices) w
   abbrev pub root : ℕ
   root = vertex_of b.arena v
 
-  through_passes : (id : ℕ) → IsThrough b v id → Passes b v id
+  through_passes : (id : ℕ) → IsThrough b v id → PassesThrough b v id
   through_passes id h = (live_from_edge b.arena id was.arena h.0, h.1)
 
-  unfoldable pub walk_starts : (id : ℕ) (behind in_front ids : List ℕ) → id ≡ root → IsLonger b (id ∷ []) [] behind in_front → ids ≡ [] ++ (behind ++ in_front) → HasWalked b v behind in_front ids
+  unfoldable pub walk_starts : (id : ℕ) (behind in_front ids : List ℕ) → id ≡ root → AreExtensions b (id ∷ []) [] behind in_front → ids ≡ [] ++ (behind ++ in_front) → HasWalked b v behind in_front ids
   walk_starts id behind in_front ids at longer are = record {
     done = [];
     hops = 1;
@@ -280,17 +256,17 @@ module _ (b : Book) (was : IsBook b) (v : ℕ) (inside : v < b.arena.vertices) w
     };
   }
     where
-      l : IsLonger b (root ∷ []) [] behind in_front
-      l = subst (λ k. IsLonger b (k ∷ []) [] behind in_front) at longer
+      l : AreExtensions b (root ∷ []) [] behind in_front
+      l = subst (λ k. AreExtensions b (k ∷ []) [] behind in_front) at longer
 
       is : (p : ℕ) → Contains (root ∷ []) p → p ≡ root
       is p c = elim (in_cons p root [] c) [ inl same ↦ sym same | inr none ↦ absurd (in_nil p none) ]
 
-      single : Passes b v root × (hops_at b root ≡ 0)
+      single : PassesThrough b v root × (hops_at b root ≡ 0)
       single = single_passes b was v inside
 
-      passes : (p : ℕ) → Contains (root ∷ []) p → Passes b v p
-      passes p c = subst (Passes b v) (sym (is p c)) single.0
+      passes : (p : ℕ) → Contains (root ∷ []) p → PassesThrough b v p
+      passes p c = subst (PassesThrough b v) (sym (is p c)) single.0
 
       starts : (p : ℕ) → Contains (root ∷ []) p → starts_at b v p ≡ true
       starts p c = subst (λ k. starts_at b v k ≡ true) (sym (is p c)) (single_starts b was v inside)
@@ -317,7 +293,7 @@ module _ (b : Book) (was : IsBook b) (v : ℕ) (inside : v < b.arena.vertices) w
     pub level_live : (q : ℕ) → Contains (starting ++ passing) q → IsLive b.arena q
     level_live q c = live_from_edge b.arena q was.arena (in_level q c).0
 
-    level_passes : (q : ℕ) → Contains (starting ++ passing) q → Passes b v q
+    level_passes : (q : ℕ) → Contains (starting ++ passing) q → PassesThrough b v q
     level_passes q c = through_passes q (in_level q c)
 
     level_once : IsOnceEach (starting ++ passing)
@@ -327,7 +303,7 @@ module _ (b : Book) (was : IsBook b) (v : ℕ) (inside : v < b.arena.vertices) w
         back_once [] ys h = h
         back_once (x ∷ xs) ys h = back_once xs ys h.1
 
-    pub walk_goes_on : (behind in_front more : List ℕ) → IsLonger b starting passing behind in_front → more ≡ ids ++ (behind ++ in_front) → HasWalked b v behind in_front more
+    pub walk_goes_on : (behind in_front more : List ℕ) → AreExtensions b starting passing behind in_front → more ≡ ids ++ (behind ++ in_front) → HasWalked b v behind in_front more
     walk_goes_on behind in_front more l are = record {
       done = all;
       hops = w.hops + 1;
@@ -360,7 +336,7 @@ module _ (b : Book) (was : IsBook b) (v : ℕ) (inside : v < b.arena.vertices) w
         facts : (q : ℕ) → Contains (behind ++ in_front) q → (p : ℕ) × Contains (starting ++ passing) p × IsThrough b v q × (hops_at b q ≡ hops_at b p + 1)
         facts = new_facts b was v starting passing behind in_front l level_passes w.walked.starts w.walked.away level_once
 
-        parent : (q : ℕ) → Contains (behind ++ in_front) q → (p : ℕ) × Contains (starting ++ passing) p × IsChild b v p q
+        parent : (q : ℕ) → Contains (behind ++ in_front) q → (p : ℕ) × Contains (starting ++ passing) p × IsExtensionFrom b v p q
         parent = new_parent b was v starting passing behind in_front l level_passes w.walked.starts w.walked.away level_once
 
         next_hop : (q : ℕ) → Contains (behind ++ in_front) q → hops_at b q ≡ w.hops + 1
@@ -408,7 +384,7 @@ module _ (b : Book) (was : IsBook b) (v : ℕ) (inside : v < b.arena.vertices) w
     walk_ends none_starts none_passes = record {
       exact = λ q. (λ c. w.walked.sound q (subst (λ xs. Contains xs q) w.are c), λ h. subst (λ xs. Contains xs q) (sym w.are) (found (hops_at b q) q (omega arith) h));
       once = subst IsOnceEach (sym w.are) w.walked.once;
-      rising = subst (IsRising b) (sym w.are) w.walked.rising;
+      rising = subst (InRisingHops b) (sym w.are) w.walked.rising;
     }
       where
         done_all : w.done ++ (starting ++ passing) ≡ w.done

@@ -1,19 +1,19 @@
 -- For both walks: each path through v with an edge has one parent, and a walk comes from there.
-use Rattle.std.specs.Prelude.{◌≡◌, ℕ, ◌+◌, ◌<◌, ◌≤◌, ◌⊎◌, ◌↔◌, Bool, true, false, if◌then◌else◌, List, [], ◌∷◌, length, Option, Some, None, is_some, unwrap_or, refl, Contains}
+use Rattle.std.specs.Prelude.{◌≡◌, ℕ, ◌+◌, ◌<◌, ◌≤◌, ◌⊎◌, ◌↔◌, Bool, true, false, if◌then◌else◌, List, [], ◌∷◌, length, Some, is_some, refl, Contains}
 use Rattle.std.proofs.Common.{sym, ◌∙◌, ap, subst, arith, inl, inr}
 use Rattle.std.proofs.lemmas.Bool.{cases_Bool, eq-eqb, eqb-true, false≢true}
-use Rattle.std.proofs.lemmas.List.{length-append}
 use Rattle.std.proofs.lemmas.List.Elements.{Contains-append_left, Contains-append_right, Contains-append_cases}
 use Rattle.apsp_model.specs.Walk.{IsSimple, first}
 use Rattle.apsp_model.specs.Part.{left_part, right_part}
 use Rattle.apsp_model.proofs.Members.{in_cons, in_nil, head_in}
-use Rattle.apsp_model.proofs.Lists.{left_and_last, length_right, ends_differ, first_in, first_of_left, in_right, to_right, first_alone}
-use Rattle.path_arena.specs.Arena.{Path, no_path, path_at, vertex_of, IsLive, list_of, left_of, right_of, HasAnEdge, single}
-use Rattle.path_arena.proofs.Paths.{Parted, parted, live_path, live_from, live_from_edge, path_of_at}
+use Rattle.apsp_model.proofs.Lists.{ends_differ, first_in, first_of_left, in_right, to_right, first_alone}
+use Rattle.path_arena.specs.Arena.{vertex_of, IsLive, list_of, left_of, right_of, HasAnEdge, single}
+use Rattle.path_arena.proofs.Paths.{live_path, live_from, live_from_edge, path_of_at}
 use Rattle.extension_lists.specs.Known.{sides_at}
 use Rattle.path_book.specs.Book.{Book, IsBook}
+use Rattle.path_book.proofs.Ends.{Ends, ends, hops_left, hops_right, edge_of_right}
 use Rattle.path_book.proofs.Readers.{single_or_edge, long_of_edge}
-use Rattle.cleanup_tasks.specs.Victims.{IsThrough, hops_at}
+use Rattle.path_book.specs.Through.{IsThrough, hops_at}
 use Rattle.cleanup_tasks.specs.Walk.{begins_with, starts_at, longer_of}
 
 -- ---- lists
@@ -27,12 +27,12 @@ begins_from [] v e = cc
 begins_from (x ∷ p) v e = eq-eqb x v (let two : Some x ≡ Some v = e in cc)
 
 -- a live path that passes v
-abbrev pub Passes : Book → ℕ → ℕ → Type 0
-Passes b v id = IsLive b.arena id × Contains (list_of b.arena id) v
+abbrev pub PassesThrough : Book → ℕ → ℕ → Type 0
+PassesThrough b v id = IsLive b.arena id × Contains (list_of b.arena id) v
 
 -- q is the child of p: p is q without its last vertex where q starts at v, and without its first vertex otherwise
-abbrev pub IsChild : Book → ℕ → ℕ → ℕ → Type 0
-IsChild b v p q = ((starts_at b v q ≡ true) × (left_of b.arena q ≡ Some p)) ⊎ ((starts_at b v q ≡ false) × (right_of b.arena q ≡ Some p))
+abbrev pub IsExtensionFrom : Book → ℕ → ℕ → ℕ → Type 0
+IsExtensionFrom b v p q = ((starts_at b v q ≡ true) × (left_of b.arena q ≡ Some p)) ⊎ ((starts_at b v q ≡ false) × (right_of b.arena q ≡ Some p))
 
 module _ (b : Book) (was : IsBook b) where
   pub simple_list : (id : ℕ) → IsLive b.arena id → IsSimple (list_of b.arena id)
@@ -40,59 +40,8 @@ module _ (b : Book) (was : IsBook b) where
       let p = live_path b.arena id live in
       subst IsSimple (sym (ap (λ q. q.list) (path_of_at b.arena id p.0 p.1))) (was.arena.paths id p.0 p.1).simple
 
-  -- the parts of a path with an edge
-  pub record Ends (id : ℕ) : Type 0 where
-    pub left : ℕ
-    pub right : ℕ
-    pub left_is : left_of b.arena id ≡ Some left
-    pub right_is : right_of b.arena id ≡ Some right
-    pub left_live : IsLive b.arena left
-    pub right_live : IsLive b.arena right
-    pub left_list : list_of b.arena left ≡ left_part (list_of b.arena id)
-    pub right_list : list_of b.arena right ≡ right_part (list_of b.arena id)
-    pub long : 1 < length (list_of b.arena id)
-
-  pub ends : (id : ℕ) → HasAnEdge b.arena id → Ends id
-  ends id edge =
-      let p : Parted b.arena id = parted b.arena id was.arena edge in
-      record {
-        left = p.parts.left;
-        right = p.parts.right;
-        left_is = ap (λ q. q.left) p.of ∙ p.parts.left_is;
-        right_is = ap (λ q. q.right) p.of ∙ p.parts.right_is;
-        left_live = p.parts.left_live;
-        right_live = p.parts.right_live;
-        left_list = p.parts.left_list ∙ ap (λ q. left_part q.list) (sym p.of);
-        right_list = p.parts.right_list ∙ ap (λ q. right_part q.list) (sym p.of);
-        long = long_of_edge b.arena id was.arena edge;
-      }
-
-  pub hops_left : (id : ℕ) (e : Ends id) → hops_at b id ≡ hops_at b e.left + 1
-  hops_left id e =
-      let long : 1 < length (list_of b.arena id) = e.long in
-      let w = left_and_last (list_of b.arena id) (omega arith) in
-      omega (arith, ap length w.1, length-append (left_part (list_of b.arena id)) (w.0 ∷ []), ap length e.left_list)
-
-  pub hops_right : (id : ℕ) (e : Ends id) → hops_at b id ≡ hops_at b e.right + 1
-  hops_right id e =
-      let long : 1 < length (list_of b.arena id) = e.long in
-      omega (arith, length_right (list_of b.arena id) (omega arith), ap length e.right_list)
-
-  -- a path with a right part has an edge
-  pub edge_of_right : (q p : ℕ) → right_of b.arena q ≡ Some p → HasAnEdge b.arena q
-  edge_of_right q p right = go (path_at b.arena q) refl
-    where
-      go : (o : Option Path) → path_at b.arena q ≡ o → HasAnEdge b.arena q
-      go None e = absurd (let two : None ≡ Some p = sym (ap (λ o. (unwrap_or o no_path).right) e) ∙ right in cc)
-      go (Some r) e = elim (single_or_edge b.arena q was.arena (ap is_some e)) [
-        | inl one ↦
-            let alone : right_of b.arena q ≡ None = ap (right_of b.arena) one.2 ∙ ap (λ s. s.right) (path_of_at b.arena (vertex_of b.arena one.0) (single one.0) (was.arena.singles one.0 one.1)) in
-            absurd (let two : None ≡ Some p = sym alone ∙ right in cc)
-        | inr edge ↦ edge
-      ]
-
   -- the children of a path that passes v are those that the walk puts behind it
-  pub longer_exact : (v p q : ℕ) → Passes b v p → Contains (longer_of b v p) q ↔ IsChild b v p q
+  pub longer_exact : (v p q : ℕ) → PassesThrough b v p → Contains (longer_of b v p) q ↔ IsExtensionFrom b v p q
   longer_exact v p q passes = (
     λ c. elim (Contains-append_cases (sides_at b.lists p).left (if starts_at b v p then (sides_at b.lists p).right else []) q c) [
       | inl in_front ↦ inr (in_front_starts_not ((was.extensions.left p q).0 in_front), (was.extensions.left p q).0 in_front)
@@ -113,9 +62,9 @@ module _ (b : Book) (was : IsBook b) where
     ],
   )
     where
-      with_left : (q : ℕ) → left_of b.arena q ≡ Some p → Ends q × (list_of b.arena p ≡ left_part (list_of b.arena q))
+      with_left : (q : ℕ) → left_of b.arena q ≡ Some p → Ends b.arena q × (list_of b.arena p ≡ left_part (list_of b.arena q))
       with_left q left =
-          let e : Ends q = ends q (ap is_some left) in
+          let e : Ends b.arena q = ends b.arena q was.arena (ap is_some left) in
           let same : e.left ≡ p = (let two : Some e.left ≡ Some p = sym e.left_is ∙ left in cc) in
           (e, ap (list_of b.arena) (sym same) ∙ e.left_list)
 
@@ -134,8 +83,8 @@ module _ (b : Book) (was : IsBook b) where
       in_front_starts_not : right_of b.arena q ≡ Some p → starts_at b v q ≡ false
       in_front_starts_not right = elim (cases_Bool (starts_at b v q)) [
         | inl at_v ↦
-            let edge : HasAnEdge b.arena q = edge_of_right q p right in
-            let e : Ends q = ends q edge in
+            let edge : HasAnEdge b.arena q = edge_of_right b.arena was.arena q p right in
+            let e : Ends b.arena q = ends b.arena q was.arena edge in
             let same : e.right ≡ p = (let two : Some e.right ≡ Some p = sym e.right_is ∙ right in cc) in
             let list : list_of b.arena p ≡ right_part (list_of b.arena q) = ap (list_of b.arena) (sym same) ∙ e.right_list in
             absurd (first_alone (list_of b.arena q) v (simple_list q (live_from_edge b.arena q was.arena edge)) (subst (λ xs. Contains xs v) list passes.1) (begins_true (list_of b.arena q) v at_v))
@@ -147,33 +96,33 @@ module _ (b : Book) (was : IsBook b) where
     pub through : IsThrough b v q
     pub hops : hops_at b q ≡ hops_at b p + 1
 
-  pub child_facts : (v p q : ℕ) → Passes b v p → IsChild b v p q → ChildFacts v p q
+  pub child_facts : (v p q : ℕ) → PassesThrough b v p → IsExtensionFrom b v p q → ChildFacts v p q
   child_facts v p q passes h = elim h [
     | inl behind ↦
         let edge : HasAnEdge b.arena q = ap is_some behind.1 in
-        let e : Ends q = ends q edge in
+        let e : Ends b.arena q = ends b.arena q was.arena edge in
         let same : e.left ≡ p = (let two : Some e.left ≡ Some p = sym e.left_is ∙ behind.1 in cc) in
         let long : 1 < length (list_of b.arena q) = e.long in
         record {
           through = (edge, first_in (list_of b.arena q) v (begins_true (list_of b.arena q) v behind.0));
-          hops = hops_left q e ∙ ap (λ j. hops_at b j + 1) same;
+          hops = hops_left b.arena q e ∙ ap (λ j. hops_at b j + 1) same;
         }
     | inr in_front ↦
-        let edge : HasAnEdge b.arena q = edge_of_right q p in_front.1 in
-        let e : Ends q = ends q edge in
+        let edge : HasAnEdge b.arena q = edge_of_right b.arena was.arena q p in_front.1 in
+        let e : Ends b.arena q = ends b.arena q was.arena edge in
         let same : e.right ≡ p = (let two : Some e.right ≡ Some p = sym e.right_is ∙ in_front.1 in cc) in
         let list : list_of b.arena p ≡ right_part (list_of b.arena q) = ap (list_of b.arena) (sym same) ∙ e.right_list in
         record {
           through = (edge, in_right (list_of b.arena q) v (subst (λ xs. Contains xs v) list passes.1));
-          hops = hops_right q e ∙ ap (λ j. hops_at b j + 1) same;
+          hops = hops_right b.arena q e ∙ ap (λ j. hops_at b j + 1) same;
         }
   ]
 
   -- the parent of a path through v passes v
   pub record ParentOf (v q : ℕ) : Type 0 where
     pub parent : ℕ
-    pub is : IsChild b v parent q
-    pub passes : Passes b v parent
+    pub is : IsExtensionFrom b v parent q
+    pub passes : PassesThrough b v parent
 
   pub parent_of : (v q : ℕ) → IsThrough b v q → ParentOf v q
   parent_of v q through = elim (cases_Bool (starts_at b v q)) [
@@ -189,18 +138,18 @@ module _ (b : Book) (was : IsBook b) where
     }
   ]
     where
-      e : Ends q
-      e = ends q through.0
+      e : Ends b.arena q
+      e = ends b.arena q was.arena through.0
 
   -- a child has one parent
-  pub one_parent : (v p r q : ℕ) → IsChild b v p q → IsChild b v r q → p ≡ r
+  pub one_parent : (v p r q : ℕ) → IsExtensionFrom b v p q → IsExtensionFrom b v r q → p ≡ r
   one_parent v p r q (inl h) (inl k) = (let two : Some p ≡ Some r = sym h.1 ∙ k.1 in cc)
   one_parent v p r q (inl h) (inr k) = absurd (false≢true (sym k.0 ∙ h.0))
   one_parent v p r q (inr h) (inl k) = absurd (false≢true (sym h.0 ∙ k.0))
   one_parent v p r q (inr h) (inr k) = (let two : Some p ≡ Some r = sym h.1 ∙ k.1 in cc)
 
   -- a path that passes v is its single vertex or goes through v with an edge
-  pub single_or_through : (v id : ℕ) → Passes b v id → (id ≡ vertex_of b.arena v) ⊎ IsThrough b v id
+  pub single_or_through : (v id : ℕ) → PassesThrough b v id → (id ≡ vertex_of b.arena v) ⊎ IsThrough b v id
   single_or_through v id passes = elim (single_or_edge b.arena id was.arena passes.0) [
     | inl one ↦
         let alone : Contains (one.0 ∷ []) v = subst (λ xs. Contains xs v) one.3 passes.1 in
@@ -208,7 +157,7 @@ module _ (b : Book) (was : IsBook b) where
     | inr edge ↦ inr (edge, passes.1)
   ]
 
-  pub single_passes : (v : ℕ) → v < b.arena.vertices → Passes b v (vertex_of b.arena v) × (hops_at b (vertex_of b.arena v) ≡ 0)
+  pub single_passes : (v : ℕ) → v < b.arena.vertices → PassesThrough b v (vertex_of b.arena v) × (hops_at b (vertex_of b.arena v) ≡ 0)
   single_passes v l =
       let of : list_of b.arena (vertex_of b.arena v) ≡ v ∷ [] = ap (λ p. p.list) (path_of_at b.arena (vertex_of b.arena v) (single v) (was.arena.singles v l)) in
       ((live_from b.arena (vertex_of b.arena v) (single v) (was.arena.singles v l), subst (λ xs. Contains xs v) (sym of) (head_in v v [] refl)), omega (arith, ap length of))
@@ -225,7 +174,7 @@ module _ (b : Book) (was : IsBook b) where
   pub ends_apart : (q id : ℕ) → left_of b.arena q ≡ Some id → right_of b.arena q ≡ Some id → ⊥
   ends_apart q id left right =
       let edge : HasAnEdge b.arena q = ap is_some left in
-      let e : Ends q = ends q edge in
+      let e : Ends b.arena q = ends b.arena q was.arena edge in
       let same_left : e.left ≡ id = (let two : Some e.left ≡ Some id = sym e.left_is ∙ left in cc) in
       let same_right : e.right ≡ id = (let two : Some e.right ≡ Some id = sym e.right_is ∙ right in cc) in
       let parts : left_part (list_of b.arena q) ≡ right_part (list_of b.arena q) = sym e.left_list ∙ ap (list_of b.arena) (same_left ∙ sym same_right) ∙ e.right_list in

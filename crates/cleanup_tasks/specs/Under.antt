@@ -7,7 +7,7 @@ use Rattle.apsp_model.specs.Walk.{IsOnceEach}
 use Rattle.path_arena.specs.Arena.{left_of, right_of}
 use Rattle.path_book.specs.Book.{Book, book_code, IsBook}
 use Rattle.cleanup_tasks.specs.declared.search.Level.{Level}
-use Rattle.cleanup_tasks.specs.Victims.{IsThrough, hops_at}
+use Rattle.path_book.specs.Through.{IsThrough, hops_at}
 use Rattle.cleanup_tasks.specs.Walk.{starts_at}
 
 -- a path through v without its last vertex where it starts at v, and without its first vertex otherwise
@@ -20,12 +20,12 @@ ancestor b v zero id = id
 ancestor b v (suc n) id = ancestor b v n (parent_at b v id)
 
 -- the edge at v that a path through v comes to
-abbrev pub edge_of : Book → ℕ → ℕ → ℕ
-edge_of b v id = ancestor b v (hops_at b id - 1) id
+abbrev pub edge_above : Book → ℕ → ℕ → ℕ
+edge_above b v id = ancestor b v (hops_at b id - 1) id
 
 -- a path through v with j edges more than the edge that it lies under
 abbrev pub IsUnder : Book → ℕ → ℕ → ℕ → ℕ → Type 0
-IsUnder b v edge j id = IsThrough b v id × (hops_at b id ≡ j + 1) × (edge_of b v id ≡ edge)
+IsUnder b v edge j id = IsThrough b v id × (hops_at b id ≡ j + 1) × (edge_above b v id ≡ edge)
 
 -- exactly the edges at v, each once
 pub record AreEdges (b : Book) (v : ℕ) (edges : List ℕ) : Type 0 where
@@ -34,13 +34,13 @@ pub record AreEdges (b : Book) (v : ℕ) (edges : List ℕ) : Type 0 where
   pub exact : (id : ℕ) → Contains edges id ↔ (IsThrough b v id × (hops_at b id ≡ 1))
   pub once : IsOnceEach edges
 
-abbrev pub paths_in : Level → List ℕ
-paths_in l = l.starting.items ++ l.passing.items
+abbrev pub paths_of_level : Level → List ℕ
+paths_of_level l = l.starting.items ++ l.passing.items
 
 -- the paths of a level, of which there are none behind the last
 abbrev pub level_at : List Level → ℕ → List ℕ
 level_at [] j = []
-level_at (l ∷ ls) zero = paths_in l
+level_at (l ∷ ls) zero = paths_of_level l
 level_at (l ∷ ls) (suc j) = level_at ls j
 
 -- exactly the paths under an edge, by their number of edges, each once

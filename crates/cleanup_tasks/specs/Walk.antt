@@ -2,8 +2,10 @@
 use Rattle.std.specs.Prelude.{◌≡◌, ℕ, Bool, false, ◌==◌, if◌then◌else◌, List, [], ◌∷◌, ◌++◌, Contains}
 use Rattle.apsp_model.specs.Walk.{IsOnceEach}
 use Rattle.path_arena.specs.Arena.{list_of}
-use Rattle.extension_lists.specs.Known.{sides_at}
+use Rattle.extension_lists.specs.Known.{Sides, sides_at}
 use Rattle.path_book.specs.Book.{Book}
+use Rattle.cleanup_tasks.specs.declared.search.Side.{Side}
+use Rattle.cleanup_tasks.specs.declared.search.Side.TheVariants.{Left, Right}
 
 -- whether a list, and the path of an id, starts at v
 abbrev pub begins_with : List ℕ → ℕ → Bool
@@ -18,19 +20,20 @@ starts_at b v id = begins_with (list_of b.arena id) v
 abbrev pub longer_of : Book → ℕ → ℕ → List ℕ
 longer_of b v id = (sides_at b.lists id).left ++ (if starts_at b v id then (sides_at b.lists id).right else [])
 
--- what goes on in front of the paths of a list, and behind them
-abbrev pub lefts_of : Book → List ℕ → List ℕ
-lefts_of b [] = []
-lefts_of b (id ∷ ids) = (sides_at b.lists id).left ++ lefts_of b ids
+-- what goes on at a side of a path
+abbrev pub side_of : Side → Sides → List ℕ
+side_of Left sides = sides.left
+side_of Right sides = sides.right
 
-abbrev pub rights_of : Book → List ℕ → List ℕ
-rights_of b [] = []
-rights_of b (id ∷ ids) = (sides_at b.lists id).right ++ rights_of b ids
+-- what goes on at a side of the paths of a list
+abbrev pub extensions_of : Side → Book → List ℕ → List ℕ
+extensions_of side b [] = []
+extensions_of side b (id ∷ ids) = side_of side (sides_at b.lists id) ++ extensions_of side b ids
 
 -- behind the first paths and in front of all go these
-pub record IsLonger (b : Book) (starting passing behind in_front : List ℕ) : Type 0 where
-  pub rights : behind ≡ rights_of b starting
-  pub lefts : in_front ≡ lefts_of b starting ++ lefts_of b passing
+pub record AreExtensions (b : Book) (starting passing behind in_front : List ℕ) : Type 0 where
+  pub rights : behind ≡ extensions_of Right b starting
+  pub lefts : in_front ≡ extensions_of Left b starting ++ extensions_of Left b passing
   pub right_once : (p : ℕ) → Contains starting p → IsOnceEach (sides_at b.lists p).right
   pub starting_once : (p : ℕ) → Contains starting p → IsOnceEach (sides_at b.lists p).left
   pub passing_once : (p : ℕ) → Contains passing p → IsOnceEach (sides_at b.lists p).left

@@ -5,7 +5,7 @@ ghost use Rattle.apsp_model.specs.Graph.{Graph};
 ghost use Rattle.apsp_model.specs.Star.{AgreeAway};
 ghost use Rattle.apsp_model.specs.Settled.{IsCleaned, AreLocal, IsReady};
 ghost use Rattle.path_book.specs.Book.{IsBook, kept_paths};
-ghost use Rattle.cleanup_tasks.specs.Victims.{IsVictims};
+ghost use Rattle.path_book.specs.Through.{IsVictims};
 
 use crate::listed::Victims;
 use path_book::Book;
@@ -22,12 +22,9 @@ pub fn forget_all(book: &mut Book, list: &Victims)
     ensures vertices { book.new.arena.vertices ≡ book.old.arena.vertices }
     ensures lawful { IsBook book.new }
 {
-    // A reader tells what holds of every book.
-    let _ = book.arena();
-    // The longest come first, so each is part of no other then.
-    let mut rest = list.ids();
-    'longest: while let Some((&id, shorter)) = rest.split_last() {
-        book.forget(id);
-        rest = shorter;
+    book.show_lawful();
+    if list.ids().is_empty() {
+        return;
     }
+    book.forget_through(list.vertex(), list.ids());
 }

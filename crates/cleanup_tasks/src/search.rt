@@ -6,8 +6,8 @@ ghost use Rattle.path_arena.specs.Arena.{IsLive};
 ghost use Rattle.apsp_model.specs.Walk.{IsOnceEach};
 ghost use Rattle.extension_lists.specs.Known.{sides_at};
 ghost use Rattle.path_book.specs.Book.{IsBook};
-ghost use Rattle.cleanup_tasks.specs.Victims.{IsVictims};
-ghost use Rattle.cleanup_tasks.specs.Walk.{lefts_of, rights_of, IsLonger};
+ghost use Rattle.path_book.specs.Through.{IsVictims};
+ghost use Rattle.cleanup_tasks.specs.Walk.{side_of, extensions_of, AreExtensions};
 
 use crate::listed::Victims;
 use crate::tasks::{MANY_PATHS, Searchers, walk_by};
@@ -51,6 +51,13 @@ pub fn victims<R: Threads + Sync, G: Gate>(
     Ok(Victims::new(v, ids))
 }
 
+/// Where a path goes on: in front of it, or behind it.
+#[derive(Clone, Copy)]
+enum Side {
+    Left,
+    Right,
+}
+
 /// The paths of a level, which have equally many edges: those that start at v, and the others. What
 /// goes on behind the first starts at v, and what goes on in front of any does not. So no path is
 /// looked at.
@@ -88,7 +95,6 @@ pub(crate) fn walk<G: Gate>(
 ) -> Result<Vec<PathId>, Memory>
     requires vertex { v < book.now.arena.vertices }
     ensures all { IfOk result (λ ids. IsVictims book.now v ids.items) }
-    ensures live { IfOk result (λ ids. (id : ℕ) → Contains ids.items id → IsLive book.now.arena id) }
 {
     let (mut level, mut next) = (Level::new(alloc), Level::new(alloc));
     longer(book, &[book.arena().vertex(v)], &[], &mut level)?;
@@ -129,61 +135,51 @@ pub(crate) fn longer(
     requires starting { (id : ℕ) → Contains starting.now id → IsLive book.now.arena id }
     requires passing { (id : ℕ) → Contains passing.now id → IsLive book.now.arena id }
     ensures longer { OnOk result
-        (IsLonger book.now starting.now passing.now next.new.starting.items next.new.passing.items) }
+        (AreExtensions book.now starting.now passing.now next.new.starting.items next.new.passing.items) }
     ensures lawful { IsBook book.now }
 {
-    // A reader tells what holds of every book.
-    let _ = book.arena();
+    book.show_lawful();
     next.starting.clear();
     next.passing.clear();
-    push_rights(book, starting, &mut next.starting)?;
-    push_lefts(book, starting, &mut next.passing)?;
-    push_lefts(book, passing, &mut next.passing)
+    push_extensions(book, starting, Side::Right, &mut next.starting)?;
+    push_extensions(book, starting, Side::Left, &mut next.passing)?;
+    push_extensions(book, passing, Side::Left, &mut next.passing)
 }
 
-/// Puts the paths that go on behind those of a list behind the ids.
-fn push_rights(book: &Book, list: &[PathId], ids: &mut Vec<PathId>) -> Result<(), Memory>
-    requires live { (id : ℕ) → Contains list.now id → IsLive book.now.arena id }
-    ensures items { OnOk result (ids.new.items ≡ ids.old.items ++ rights_of book.now list.now) }
-    ensures once { OnOk result ((p : ℕ) → Contains list.now p → IsOnceEach (sides_at book.now.lists p).right) }
-{
-    'list: for &path in list {
-        push_right(book, path, ids)?;
-    }
-    Ok(())
-}
-
-fn push_right(book: &Book, path: PathId, ids: &mut Vec<PathId>) -> Result<(), Memory>
-    requires { IsLive book.now.arena path }
-    ensures items { OnOk result (ids.new.items ≡ ids.old.items ++ (sides_at book.now.lists path).right) }
-    ensures once { IsOnceEach (sides_at book.now.lists path).right }
-{
-    push_all(ids, book.lists().right(path))
-}
-
-/// Puts the paths that go on in front of those of a list behind the ids.
+/// Puts the paths that go on at a side of those of a list behind the ids.
 #[inline(always)]
-fn push_lefts(book: &Book, list: &[PathId], ids: &mut Vec<PathId>) -> Result<(), Memory>
+fn push_extensions(
+    book: &Book,
+    list: &[PathId],
+    side: Side,
+    ids: &mut Vec<PathId>,
+) -> Result<(), Memory>
     requires live { (id : ℕ) → Contains list.now id → IsLive book.now.arena id }
-    ensures items { OnOk result (ids.new.items ≡ ids.old.items ++ lefts_of book.now list.now) }
-    ensures once { OnOk result ((p : ℕ) → Contains list.now p → IsOnceEach (sides_at book.now.lists p).left) }
+    ensures items { OnOk result (ids.new.items ≡ ids.old.items ++ extensions_of side book.now list.now) }
+    ensures once { OnOk result
+        ((p : ℕ) → Contains list.now p → IsOnceEach (side_of side (sides_at book.now.lists p))) }
 {
     'list: for &path in list {
-        push_left(book, path, ids)?;
+        push_all(ids, extensions(book, path, side))?;
     }
     Ok(())
 }
 
-fn push_left(book: &Book, path: PathId, ids: &mut Vec<PathId>) -> Result<(), Memory>
+/// The paths that go on at a side of a path.
+#[inline(always)]
+fn extensions(book: &Book, path: PathId, side: Side) -> &[PathId]
     requires { IsLive book.now.arena path }
-    ensures items { OnOk result (ids.new.items ≡ ids.old.items ++ (sides_at book.now.lists path).left) }
-    ensures once { IsOnceEach (sides_at book.now.lists path).left }
+    ensures items { result.now ≡ side_of side (sides_at book.now.lists path) }
+    ensures once { IsOnceEach (side_of side (sides_at book.now.lists path)) }
 {
-    push_all(ids, book.lists().left(path))
+    match side {
+        Side::Left => book.lists().left(path),
+        Side::Right => book.lists().right(path),
+    }
 }
 
-/// Puts ids behind others. Most lists are of one or two ids, or none, which a call to copy them would
-/// cost more than the copy.
+/// Puts ids behind others, one by one. Most lists have no more than two, for which a call that copies
+/// them all costs more than the copying.
 #[inline(always)]
 fn push_all(ids: &mut Vec<PathId>, more: &[PathId]) -> Result<(), Memory>
     ensures { OnOk result (ids.new.items ≡ ids.old.items ++ more.now) }

@@ -5,8 +5,8 @@ ghost use Rattle.apsp_model.specs.Limits.{IsWorkerCount};
 ghost use Rattle.apsp_model.specs.declared.TheConstants.{MOST_VERTICES};
 ghost use Rattle.path_arena.specs.Arena.{IsLive};
 ghost use Rattle.path_book.specs.Book.{IsBook};
-ghost use Rattle.cleanup_tasks.specs.Victims.{IsVictims, IsThrough, hops_at};
-ghost use Rattle.cleanup_tasks.specs.Under.{AreEdges, AreLevels, paths_in, level_at, across, upto};
+ghost use Rattle.path_book.specs.Through.{IsVictims, IsThrough, hops_at};
+ghost use Rattle.cleanup_tasks.specs.Under.{AreEdges, AreLevels, paths_of_level, level_at, across, upto};
 
 use crate::search::{Level, longer, push_level, walk};
 use apsp_io::Gate;
@@ -80,7 +80,6 @@ pub(crate) fn walk_by<R: Threads + Sync, G: Gate>(
 ) -> Result<Vec<PathId>, Memory>
     requires vertex { v < book.now.arena.vertices }
     ensures all { IfOk result (λ ids. IsVictims book.now v ids.items) }
-    ensures live { IfOk result (λ ids. (id : ℕ) → Contains ids.items id → IsLive book.now.arena id) }
 {
     if searchers.workers > 1 && book.count_paths() >= searchers.many {
         let edges = edges_at(searchers.alloc, book, v)?;
@@ -102,7 +101,6 @@ fn walk_by_tasks<R: Threads + Sync, G: Gate>(
     requires edges { AreEdges book.now v edges.now }
     requires all { tasks ≡ length edges.now }
     ensures all { IfOk result (λ ids. IsVictims book.now v ids.items) }
-    ensures live { IfOk result (λ ids. (id : ℕ) → Contains ids.items id → IsLive book.now.arena id) }
 {
     let from = Edges {
         alloc: searchers.alloc,
@@ -156,7 +154,7 @@ fn levels_from(alloc: Global, book: &Book, v: u32, edge: PathId) -> Result<Vec<L
 
 /// The level of one edge.
 fn first_level(alloc: Global, edge: PathId, starts: bool) -> Result<Level, Memory>
-    ensures paths { IfOk result (λ l. paths_in l ≡ edge ∷ []) }
+    ensures paths { IfOk result (λ l. paths_of_level l ≡ edge ∷ []) }
     ensures starting { IfOk result (λ l. starts ≡ false → l.starting.items ≡ []) }
     ensures passing { IfOk result (λ l. starts ≡ true → l.passing.items ≡ []) }
 {

@@ -1,8 +1,8 @@
 //! Tests of the cleanup by calls.
 
-ghost use Rattle.std.specs.Prelude.{◌≡◌, ◌≢◌, ◌<◌, ◌≤◌, IsTrue, IfOk, All, length, [], ◌∷◌};
+ghost use Rattle.std.specs.Prelude.{◌≡◌, ◌≢◌, ◌<◌, ◌≤◌, IsTrue, IfOk, OnOk, All, length, [], ◌∷◌};
 ghost use Rattle.apsp_model.specs.Limits.{IsWorkerCount};
-ghost use Rattle.cleanup_tasks.specs.Victims.{IsVictims};
+ghost use Rattle.path_book.specs.Through.{IsVictims};
 ghost use Rattle.path_book.specs.Book.{IsBook, IsNewList};
 
 use crate::tasks::{Searchers, walk_by};
@@ -129,6 +129,34 @@ fn paths_through_a_vertex_are_found(rt: HostRuntime) -> Result<(), Fail> {
 fn paths_through_a_vertex_are_forgotten(rt: HostRuntime) -> Result<(), Fail> {
     let (mut book, _, _) = two_ways(rt.alloc())?;
     assert_eq!(rt; left_without(&rt, rt.alloc(), &mut book, 1)?, 3);
+    Ok(())
+}
+
+/// Forgets the paths through a vertex.
+fn forget_at<R: Threads + Sync>(rt: &R, alloc: Global, book: &mut Book, v: u32) -> Result<(), Fail>
+    requires vertices { book.old.arena.vertices ≡ 5 }
+    ensures vertices { OnOk result (book.new.arena.vertices ≡ 5) }
+{
+    let list = through(rt, alloc, book, v)?;
+    forget_all(book, &list);
+    Ok(())
+}
+
+#[test]
+fn paths_go_with_their_ends_and_can_come_again(rt: HostRuntime) -> Result<(), Fail> {
+    let (mut book, _, _) = two_ways(rt.alloc())?;
+    forget_at(&rt, rt.alloc(), &mut book, 3)?;
+    assert_eq!(rt;
+        (book.birth_of(&[0, 1]), book.birth_of(&[0, 1, 3])),
+        (Some(1), None)
+    );
+    forget_at(&rt, rt.alloc(), &mut book, 0)?;
+    assert_eq!(rt; (book.birth_of(&[0, 1]), book.count_paths()), (None, 0));
+    let _ = join_edges(&mut book, 0, 1, 3)?;
+    assert_eq!(rt;
+        (book.birth_of(&[0, 1, 3]), book.count_historical()),
+        (Some(1), 2)
+    );
     Ok(())
 }
 

@@ -8,8 +8,8 @@ use Rattle.std.proofs.lemmas.List.Elements.{All-pop}
 use Rattle.task_pool.specs.declared.work.Done.{Done}
 use Rattle.task_pool.specs.Lists.{times}
 use Rattle.task_pool.specs.States.{tasks_of, IsRight}
-use Rattle.task_pool.specs.Worked.{IsPlaced}
-use Rattle.task_pool.proofs.Totals.{times-snoc}
+use Rattle.task_pool.specs.Worked.{AnswersStandAtTheirTasks}
+use Rattle.task_pool.proofs.Times.{times-snoc}
 use Rattle.task_pool.proofs.Listing.{tasks_of-snoc, is_at-apart}
 
 module _ {T : Type 0} where
@@ -70,7 +70,7 @@ module _ {T : Type 0} where
             (p.covers x low));
       }
 
-  pub placing_ends : (tasks : ℕ) (all rest : List (Done T)) (places : List (Option T)) → rest ≡ [] → IsPlacing tasks all rest places → IsPlaced tasks all places
+  pub placing_ends : (tasks : ℕ) (all rest : List (Done T)) (places : List (Option T)) → rest ≡ [] → IsPlacing tasks all rest places → AnswersStandAtTheirTasks tasks all places
   placing_ends tasks all rest places none_left p = record {
     len = p.len;
     full = λ k d low. let len = p.len in ⊎_elim
@@ -92,7 +92,7 @@ module _ {T : Type 0} where
   rest_some rest less place is all k d low = let P : List (Option T) → Type 0 = λ l. All IsSome l in subst P is all (suc k) d (omega arith)
 
   -- the answer at each place is one that was given for its task
-  pub answers_right : (gives : ℕ → T → Type 0) (tasks : ℕ) (done : List (Done T)) (places : List (Option T)) (answers : List T) → All (IsRight gives tasks) done → IsPlaced tasks done places → map Some answers ≡ places
+  pub answers_right : (gives : ℕ → T → Type 0) (tasks : ℕ) (done : List (Done T)) (places : List (Option T)) (answers : List T) → All (IsRight gives tasks) done → AnswersStandAtTheirTasks tasks done places → map Some answers ≡ places
       → (k : ℕ) (d : T) → k < tasks → gives k (get_or answers k d)
   answers_right gives tasks done places answers right p is k d low =
       let len : length answers ≡ tasks = sym (length-map answers (λ (x : T). Some x)) ∙ (ap length is ∙ p.len) in

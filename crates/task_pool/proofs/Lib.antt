@@ -1,4 +1,4 @@
-pub mod Totals
+pub mod Times
 pub mod Steps
 pub mod Listing
 pub mod Filling

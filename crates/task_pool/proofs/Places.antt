@@ -6,10 +6,11 @@ use Rattle.std.proofs.lemmas.List.{get_or_default, get_or-set_other, get_or_appe
 use Rattle.crossbeam_deque.specs.Handles.{view, IsPassOf, SameWorker, worker_view, stealer_deque}
 use Rattle.task_pool.specs.declared.work.WorkerState.{WorkerState}
 use Rattle.task_pool.specs.declared.deque.Account.{Account}
-use Rattle.task_pool.specs.Lists.{total, times}
+use Rattle.apsp_model.specs.Totals.{total}
+use Rattle.task_pool.specs.Lists.{times}
 use Rattle.task_pool.specs.Shares.{account, both_of}
-use Rattle.task_pool.proofs.Totals.{times-snoc}
-use Rattle.task_pool.specs.States.{Thief, Passed, Fits, AreFitting, IsRow, took_in, IsState, AreStates, IsSame, IsFresh, counted}
+use Rattle.task_pool.proofs.Times.{times-snoc}
+use Rattle.task_pool.specs.States.{Thief, Passed, IsEmptyPassOf, AreFitting, IsRow, took_in, IsState, AreStates, OwnerAlone, IsFresh, times_some}
 
 pub below : (j n : ℕ) → j < n + 1 → j ≢ n → j < n
 below j n low other = dite (dec_lt j n) (λ h. h) (λ not. absurd (other (omega arith)))
@@ -54,44 +55,44 @@ module _ {A : Type 0} where
   total-step f l i a v low is = let s = total-set_or f l i v a low in let e : f a ≡ f (get_or l i a) = ap f is in omega arith
 
 -- passes
-pub fits_push : (ts : List Thief) (ps : List Passed) (p : Passed) → AreFitting ts ps → length ps < length ts → ((t : Thief) → Fits (get_or ts (length ps) t) p) → AreFitting ts (ps ++ p ∷ [])
+pub fits_push : (ts : List Thief) (ps : List Passed) (p : Passed) → AreFitting ts ps → length ps < length ts → ((t : Thief) → IsEmptyPassOf (get_or ts (length ps) t) p) → AreFitting ts (ps ++ p ∷ [])
 fits_push ts ps p a room new = record {
   few = let len = length-append ps (p ∷ []) in omega arith;
   each = λ j t d low. dite (dec_lt j (length ps))
-      (λ was. subst (Fits (get_or ts j t)) (sym (get_or_append_left ps (p ∷ []) d j was)) (a.each j t d was))
+      (λ was. subst (IsEmptyPassOf (get_or ts j t)) (sym (get_or_append_left ps (p ∷ []) d j was)) (a.each j t d was))
       (λ not.
       let len = length-append ps (p ∷ []) in
       let is : length ps ≡ j = omega arith in
-      subst (λ (z : ℕ × Passed). Fits (get_or ts z.0 t) z.1) (λ i. (is i, sym (get_or_push ps p d j is) i)) (new t));
+      subst (λ (z : ℕ × Passed). IsEmptyPassOf (get_or ts z.0 t) z.1) (λ i. (is i, sym (get_or_push ps p d j is) i)) (new t));
 }
 
-pub fits_pop : (ts : List Thief) (ps less : List Passed) (p : Passed) → ps ≡ less ++ p ∷ [] → AreFitting ts ps → AreFitting ts less × (length less < length ts) × ((t : Thief) → Fits (get_or ts (length less) t) p)
+pub fits_pop : (ts : List Thief) (ps less : List Passed) (p : Passed) → ps ≡ less ++ p ∷ [] → AreFitting ts ps → AreFitting ts less × (length less < length ts) × ((t : Thief) → IsEmptyPassOf (get_or ts (length less) t) p)
 fits_pop ts ps less p is a =
     let b : AreFitting ts (less ++ p ∷ []) = subst (AreFitting ts) is a in
     let len = length-append less (p ∷ []) in
     let few = b.few in (
       record {
         few = omega arith;
-        each = λ j t d low. subst (Fits (get_or ts j t)) (get_or_append_left less (p ∷ []) d j low) (b.each j t d (omega arith));
+        each = λ j t d low. subst (IsEmptyPassOf (get_or ts j t)) (get_or_append_left less (p ∷ []) d j low) (b.each j t d (omega arith));
       },
       omega arith,
-      λ t. subst (Fits (get_or ts (length less) t)) (get_or_push less p p (length less) refl) (b.each (length less) t p (omega arith)),
+      λ t. subst (IsEmptyPassOf (get_or ts (length less) t)) (get_or_push less p p (length less) refl) (b.each (length less) t p (omega arith)),
     )
 
-pub row_set : (ts : List Thief) (ps : List Passed) (i : ℕ) (p : Passed) → IsRow ts ps → ((t : Thief) → Fits (get_or ts i t) p) → IsRow ts (set ps i p)
+pub row_set : (ts : List Thief) (ps : List Passed) (i : ℕ) (p : Passed) → IsRow ts ps → ((t : Thief) → IsEmptyPassOf (get_or ts i t) p) → IsRow ts (set ps i p)
 row_set ts ps i p a new = let len = length-set ps i p in let was = a.0 in (
   omega arith,
   record {
     few = omega arith;
-    each = λ j t d low. set_or (Fits (get_or ts j t)) ps i j p d (omega arith) (λ same. subst (λ (k : ℕ). Fits (get_or ts k t) p) (sym same) (new t)) (λ other. a.1.each j t d (omega arith));
+    each = λ j t d low. set_or (IsEmptyPassOf (get_or ts j t)) ps i j p d (omega arith) (λ same. subst (λ (k : ℕ). IsEmptyPassOf (get_or ts k t) p) (sym same) (new t)) (λ other. a.1.each j t d (omega arith));
   },
 )
 
-pub fits_new : (ts : List Thief) (i : ℕ) (t : Thief) (p : Passed) (q : _) → q ≡ stealer_deque (get_or ts i t) → IsPassOf q p → view p ≡ account 1 [] [] → Fits (get_or ts i t) p
+pub fits_new : (ts : List Thief) (i : ℕ) (t : Thief) (p : Passed) (q : _) → q ≡ stealer_deque (get_or ts i t) → IsPassOf q p → view p ≡ account 1 [] [] → IsEmptyPassOf (get_or ts i t) p
 fits_new ts i t p q is of new = (subst (λ z. IsPassOf z p) is of, ap (λ (h : Account). h.parts) new, ap (λ (h : Account). h.pushed) new)
 
 -- what one try leaves of a view
-pub kept : (r : Option ℕ) (v w : Account) → IfSome r (λ x. w ≡ account v.parts v.pushed (v.took ++ x ∷ [])) → IfNone r (w ≡ v) → (w.parts ≡ v.parts) × (w.pushed ≡ v.pushed) × ((x : ℕ) → times x w.took ≡ times x v.took + counted x r)
+pub kept : (r : Option ℕ) (v w : Account) → IfSome r (λ x. w ≡ account v.parts v.pushed (v.took ++ x ∷ [])) → IfNone r (w ≡ v) → (w.parts ≡ v.parts) × (w.pushed ≡ v.pushed) × ((x : ℕ) → times x w.took ≡ times x v.took + times_some x r)
 kept None v w some same = (ap (λ (h : Account). h.parts) same, ap (λ (h : Account). h.pushed) same, λ x. let e = ap (λ (h : Account). times x h.took) same in omega arith)
 kept (Some y) v w some same = (
   ap (λ (h : Account). h.parts) some,
@@ -114,7 +115,7 @@ module _ {T : Type 0} where
     parts_are = omega arith;
   }
 
-  pub same_then : (a b c : WorkerState T) → IsSame a b → c.passes ≡ b.passes → c.done ≡ b.done → (worker_view c.owner).pushed ≡ (worker_view b.owner).pushed → IsSame a c
+  pub same_then : (a b c : WorkerState T) → OwnerAlone a b → c.passes ≡ b.passes → c.done ≡ b.done → (worker_view c.owner).pushed ≡ (worker_view b.owner).pushed → OwnerAlone a c
   same_then a b c s p d u = record { passes = p ∙ s.passes; done = d ∙ s.done; pushed = u ∙ s.pushed }
 
   -- the states below a place, and from it on
@@ -134,9 +135,9 @@ module _ {T : Type 0} where
       → (j : ℕ) (t : Thief) (d : WorkerState T) → i ≤ j → j < length ds → IsState n (get_or ts j t) (get_or (set ds i b) j d)
   high_down n ts ds i b old new j t d high low = set_or (IsState n (get_or ts j t)) ds i j b d low (λ same. subst (λ (k : ℕ). IsState n (get_or ts k t) b) (sym same) (new t)) (λ other. old j t d (above j i high other) low)
 
-  pub same_set : (start ds : List (WorkerState T)) (i : ℕ) (b : WorkerState T) → ((j : ℕ) (d : WorkerState T) → j < length ds → IsSame (get_or start j d) (get_or ds j d)) → ((d : WorkerState T) → i < length ds → IsSame (get_or start i d) b)
-      → (j : ℕ) (d : WorkerState T) → j < length ds → IsSame (get_or start j d) (get_or (set ds i b) j d)
-  same_set start ds i b old new j d low = set_or (IsSame (get_or start j d)) ds i j b d low (λ same. subst (λ (k : ℕ). IsSame (get_or start k d) b) (sym same) (new d (omega arith))) (λ other. old j d low)
+  pub same_set : (start ds : List (WorkerState T)) (i : ℕ) (b : WorkerState T) → ((j : ℕ) (d : WorkerState T) → j < length ds → OwnerAlone (get_or start j d) (get_or ds j d)) → ((d : WorkerState T) → i < length ds → OwnerAlone (get_or start i d) b)
+      → (j : ℕ) (d : WorkerState T) → j < length ds → OwnerAlone (get_or start j d) (get_or (set ds i b) j d)
+  same_set start ds i b old new j d low = set_or (OwnerAlone (get_or start j d)) ds i j b d low (λ same. subst (λ (k : ℕ). OwnerAlone (get_or start k d) b) (sym same) (new d (omega arith))) (λ other. old j d low)
 
   abbrev pub with_passes : WorkerState T → Vec Passed Global → WorkerState T
   with_passes d ps = record { owner = d.owner; passes = ps; done = d.done; short = d.short }
@@ -153,7 +154,7 @@ module _ {T : Type 0} where
   pub states_again : (n m : ℕ) (ts : List Thief) (ds : List (WorkerState T)) → n ≡ m → AreStates n ts ds → AreStates m ts ds
   states_again n m ts ds is all = subst (λ (k : ℕ). AreStates k ts ds) is all
 
-  pub fresh_same : (a b : WorkerState T) → IsFresh a → IsSame a b → (worker_view b.owner).took ≡ (worker_view a.owner).took → IsFresh b
+  pub fresh_same : (a b : WorkerState T) → IsFresh a → OwnerAlone a b → (worker_view b.owner).took ≡ (worker_view a.owner).took → IsFresh b
   fresh_same a b f s t = (
     λ x.
         let z = f.0 x in

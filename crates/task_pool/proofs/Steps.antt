@@ -4,9 +4,11 @@ use mathlib.Core.Option.{some, some-injective, some-ne-none}
 use lib.ListN.{get_elem?}
 use Rattle.crossbeam_deque.specs.Tasks.{Pushes, Takes, Finds, FindsFew, Forks, Merges}
 use Rattle.task_pool.specs.declared.deque.Account.{Account}
-use Rattle.task_pool.specs.Lists.{total, times}
+use Rattle.apsp_model.specs.Totals.{total}
+use Rattle.task_pool.specs.Lists.{times}
 use Rattle.task_pool.specs.Shares.{account, ALL_PARTS, Shares, Pushed, Took, Emptied, without_part, one_part, both_of}
-use Rattle.task_pool.proofs.Totals.{total-set, total-append, total-only, times-append}
+use Rattle.apsp_model.proofs.Totals.{total-set, total-append, total-only}
+use Rattle.task_pool.proofs.Times.{times-append}
 
 -- what stands at a place after one place was set
 set_gives : {A : Type 0} (xs : List A) (i j : ℕ) (new found : A) → get_elem? (set xs i new) j ≡ some found → ((j ≡ i) × (new ≡ found)) ⊎ ((j ≢ i) × (get_elem? xs j ≡ some found))

@@ -3,7 +3,8 @@ use Rattle.std.specs.Prelude.{◌≡◌, ℕ, ◌+◌, ◌-◌, ◌≤◌, List,
 use mathlib.Core.Option.{some}
 use lib.ListN.{get_elem?}
 use Rattle.task_pool.specs.declared.deque.Account.{Account}
-use Rattle.task_pool.specs.Lists.{total, times}
+use Rattle.apsp_model.specs.Totals.{total}
+use Rattle.task_pool.specs.Lists.{times}
 
 abbrev pub account : ℕ → List ℕ → List ℕ → Account
 account parts pushed took = record { parts = parts; pushed = pushed; took = took }

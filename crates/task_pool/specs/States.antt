@@ -8,7 +8,8 @@ use Rattle.task_pool.specs.declared.deque.Account.{Account}
 use Rattle.task_pool.specs.declared.deque.Shared.{Shared}
 use Rattle.task_pool.specs.declared.work.Done.{Done}
 use Rattle.task_pool.specs.declared.work.WorkerState.{WorkerState}
-use Rattle.task_pool.specs.Lists.{total, times, is_at}
+use Rattle.apsp_model.specs.Totals.{total}
+use Rattle.task_pool.specs.Lists.{times, is_at}
 use Rattle.task_pool.specs.Shares.{ALL_PARTS}
 
 abbrev pub Thief : Type 0
@@ -18,14 +19,14 @@ abbrev pub Passed : Type 0
 Passed = Pass ℕ Account Global
 
 -- a pass of this thief's deque with one part, which has pushed nothing
-abbrev pub Fits : Thief → Passed → Type 0
-Fits t p = IsPassOf (stealer_deque t) p × ((view p).parts ≡ 1) × ((view p).pushed ≡ [])
+abbrev pub IsEmptyPassOf : Thief → Passed → Type 0
+IsEmptyPassOf t p = IsPassOf (stealer_deque t) p × ((view p).parts ≡ 1) × ((view p).pushed ≡ [])
 
 -- each pass is of the deque at its place
 pub record AreFitting (thieves : List Thief) (passes : List Passed) : Type 0 where
   pub few : length passes ≤ length thieves
   pub each : (j : ℕ) (t : Thief) (p : Passed) → j < length passes
-      → Fits (slice_index_or thieves j t) (slice_index_or passes j p)
+      → IsEmptyPassOf (slice_index_or thieves j t) (slice_index_or passes j p)
 
 -- a pass of each deque
 abbrev pub IsRow : List Thief → List Passed → Type 0
@@ -35,9 +36,9 @@ IsRow thieves passes = (length passes ≡ length thieves) × AreFitting thieves 
 abbrev pub took_in : ℕ → List Passed → ℕ
 took_in x passes = total (λ (p : Passed). times x (view p).took) passes
 
-abbrev pub counted : ℕ → Option ℕ → ℕ
-counted x None = 0
-counted x (Some y) = is_at x y
+abbrev pub times_some : ℕ → Option ℕ → ℕ
+times_some x None = 0
+times_some x (Some y) = is_at x y
 
 module _ {T : Type 0} where
   abbrev pub tasks_of : List (Done T) → List ℕ
@@ -92,7 +93,7 @@ module _ {T : Type 0} where
     pub right : All (IsRight gives tasks) d.done.items
 
   -- what a step with all owners leaves
-  pub record IsSame (old new : WorkerState T) : Type 0 where
+  pub record OwnerAlone (old new : WorkerState T) : Type 0 where
     pub passes : new.passes ≡ old.passes
     pub done : new.done ≡ old.done
     pub pushed : (worker_view new.owner).pushed ≡ (worker_view old.owner).pushed

@@ -4,9 +4,10 @@ ghost use Rattle.std.specs.Prelude.{◌≡◌, ℕ, ◌+◌, ◌-◌, ◌*◌, �
 ghost use Rattle.apsp_model.specs.Limits.{IsWorkerCount};
 ghost use Rattle.apsp_model.specs.declared.TheConstants.{MOST_WORKERS};
 ghost use Rattle.crossbeam_deque.specs.Handles.{view, worker_view, worker_flavor, worker_deque, stealer_deque, stealer_flavor};
-ghost use Rattle.task_pool.specs.Lists.{total, times, once_below};
+ghost use Rattle.apsp_model.specs.Totals.{total};
+ghost use Rattle.task_pool.specs.Lists.{times, once_below};
 ghost use Rattle.task_pool.specs.Shares.{ALL_PARTS};
-ghost use Rattle.task_pool.specs.States.{AreFitting, IsRow, took_in, took_at, took_all, pushed_at, did_at, IsState, AreStates, IsFresh, IsSame, OwnsAll};
+ghost use Rattle.task_pool.specs.States.{AreFitting, IsRow, took_in, took_at, took_all, pushed_at, did_at, IsState, AreStates, IsFresh, OwnerAlone, OwnsAll};
 
 use crate::deque::{Account, Thief, filled, pass_of, take_in};
 use crate::work::WorkerState;
@@ -84,7 +85,7 @@ fn row<T: Drop>(
     ensures row { IfOk result (λ v. IsRow thieves.now v.items × ((x : ℕ) → took_in x v.items ≡ 0)) }
     ensures states { OnOk result (AreStates parts thieves.now states.new.items) }
     ensures same { (j : ℕ) (d : WorkerState T) → j < vec_len states.old
-        → IsSame (slice_index_or states.old.items j d) (slice_index_or states.new.items j d) }
+        → OwnerAlone (slice_index_or states.old.items j d) (slice_index_or states.new.items j d) }
     ensures took { (j : ℕ) (d : WorkerState T) → j < vec_len states.old
         → (worker_view (slice_index_or states.new.items j d).owner).took
         ≡ (worker_view (slice_index_or states.old.items j d).owner).took }
@@ -135,7 +136,7 @@ fn take_row<T: Drop>(
     requires row { IsRow thieves.now passes.items }
     ensures states { AreStates (parts + 1) thieves.now states.new.items }
     ensures same { (j : ℕ) (d : WorkerState T) → j < vec_len states.old
-        → IsSame (slice_index_or states.old.items j d) (slice_index_or states.new.items j d) }
+        → OwnerAlone (slice_index_or states.old.items j d) (slice_index_or states.new.items j d) }
     ensures took { (x : ℕ) → total (took_at x) states.new.items
         ≡ total (took_at x) states.old.items + took_in x passes.items }
 {

@@ -4,7 +4,8 @@ ghost use Rattle.std.specs.Prelude.{false, ◌≡◌, ℕ, ◌-◌, ◌<◌, ◌
 ghost use Rattle.apsp_model.specs.Limits.{IsWorkerCount};
 ghost use Rattle.apsp_model.specs.declared.TheConstants.{MOST_WORKERS};
 ghost use Rattle.crossbeam_deque.specs.Handles.{view, worker_view, worker_flavor, worker_deque, stealer_deque, stealer_flavor};
-ghost use Rattle.task_pool.specs.Lists.{total, times, once_below};
+ghost use Rattle.apsp_model.specs.Totals.{total};
+ghost use Rattle.task_pool.specs.Lists.{times, once_below};
 ghost use Rattle.task_pool.specs.Shares.{ALL_PARTS};
 ghost use Rattle.task_pool.specs.States.{IsRow, tasks_of, IsRight, pushed_at, took_all, AreStates, HasWorked, SameOwner, AreBack};
 

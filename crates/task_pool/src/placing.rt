@@ -3,7 +3,7 @@
 ghost use Rattle.std.specs.Prelude.{◌≡◌, ℕ, ◌<◌, ◌≤◌, All, IfOk, IsSome, Some, None, vec_len, slice_set, replicate, map};
 ghost use Rattle.task_pool.specs.Lists.{times};
 ghost use Rattle.task_pool.specs.States.{tasks_of};
-ghost use Rattle.task_pool.specs.Worked.{IsPlaced};
+ghost use Rattle.task_pool.specs.Worked.{AnswersStandAtTheirTasks};
 
 use crate::work::Done;
 use apsp_model::Memory;
@@ -41,7 +41,7 @@ pub(crate) fn placed<T: Drop>(
 ) -> Result<Vec<Option<T>>, Memory>
     requires below { All (λ d. d.task < tasks) done.items }
     requires covers { (x : ℕ) → x < tasks → 1 ≤ times x (tasks_of done.items) }
-    ensures { IfOk result (λ v. IsPlaced tasks done.items v.items) }
+    ensures { IfOk result (λ v. AnswersStandAtTheirTasks tasks done.items v.items) }
 {
     let mut all = places(alloc, tasks)?;
     while let Some(answer) = done.pop() {

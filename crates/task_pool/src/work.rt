@@ -5,7 +5,7 @@ ghost use Rattle.std.specs.Prelude.{All, OnOk, slice_index_or};
 ghost use Rattle.apsp_model.specs.declared.TheConstants.{MOST_WORKERS};
 ghost use Rattle.crossbeam_deque.specs.Handles.{view, worker_view, worker_flavor, worker_deque, stealer_deque, stealer_flavor};
 ghost use Rattle.task_pool.specs.Lists.{times, is_at};
-ghost use Rattle.task_pool.specs.States.{AreFitting, IsRow, took_in, tasks_of, IsRight, IsState, HasWorked, SameOwner, counted};
+ghost use Rattle.task_pool.specs.States.{AreFitting, IsRow, took_in, tasks_of, IsRight, IsState, HasWorked, SameOwner, times_some};
 
 use crate::Job;
 use crate::deque::{Account, Owner, Thief, next, stolen};
@@ -63,7 +63,7 @@ fn tried(thieves: &[Thief], at: usize, passes: &mut Vec<Pass<u32, Account>>) -> 
     requires fifo { All (λ t. stealer_flavor t ≡ 0) thieves.now }
     requires row { IsRow thieves.now passes.old.items }
     ensures row { IsRow thieves.now passes.new.items }
-    ensures took { (x : ℕ) → took_in x passes.new.items ≡ took_in x passes.old.items + counted x result }
+    ensures took { (x : ℕ) → took_in x passes.new.items ≡ took_in x passes.old.items + times_some x result }
 {
     stolen(&thieves[at], &mut passes[at])
 }
@@ -74,7 +74,7 @@ fn robbed(thieves: &[Thief], who: usize, passes: &mut Vec<Pass<u32, Account>>) -
     requires fifo { All (λ t. stealer_flavor t ≡ 0) thieves.now }
     requires row { IsRow thieves.now passes.old.items }
     ensures row { IsRow thieves.now passes.new.items }
-    ensures took { (x : ℕ) → took_in x passes.new.items ≡ took_in x passes.old.items + counted x result }
+    ensures took { (x : ℕ) → took_in x passes.new.items ≡ took_in x passes.old.items + times_some x result }
 {
     for step in 1..thieves.len() {
         let at = if step < thieves.len() - who {

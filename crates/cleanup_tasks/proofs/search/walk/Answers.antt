@@ -1,10 +1,9 @@
 use Rattle.std.proofs.Common.{◌≡◌, ℕ, List, ◌++◌, Contains, sym, ◌∙◌, ap, subst}
 use Rattle.std.proofs.lemmas.List.Elements.{Contains-append_right}
 use Rattle.path_arena.specs.Arena.{vertex_of}
-use Rattle.cleanup_tasks.specs.Victims.{IsVictims}
-use Rattle.cleanup_tasks.specs.Walk.{IsLonger}
+use Rattle.cleanup_tasks.specs.Walk.{AreExtensions}
 use Rattle.cleanup_tasks.specs.declared.search.Level.{Level}
-use Rattle.cleanup_tasks.proofs.Levels.{walk_starts, walk_goes_on, walk_falls, walk_ends, level_live, victims_live}
+use Rattle.cleanup_tasks.proofs.Levels.{walk_starts, walk_goes_on, walk_falls, walk_ends, level_live}
 use Rattle.cleanup_tasks.proofs.search.walk.Goals as goal
 
 pub levels-init : goal.levels-init
@@ -25,16 +24,15 @@ levels-smaller g c =
 
 pub levels-preserved : goal.levels-preserved
 levels-preserved g c =
-    let made : IsLonger c.args.book.now c.levels.level.starting.items c.levels.level.passing.items c.longer-in-levels.new.next.starting.items c.longer-in-levels.new.next.passing.items =
-    subst (λ xs. IsLonger c.args.book.now xs c.levels.level.passing.items c.longer-in-levels.new.next.starting.items c.longer-in-levels.new.next.passing.items) c.deref.ensures.value
-    (subst (λ ys. IsLonger c.args.book.now c.deref.result.now ys c.longer-in-levels.new.next.starting.items c.longer-in-levels.new.next.passing.items) c.deref-in-levels.ensures.value c.in_ok-longer-2.ensures.longer) in
-    let longer : IsLonger c.args.book.now c.levels.level.starting.items c.levels.level.passing.items c.swap.new.x.starting.items c.swap.new.x.passing.items =
-    subst (λ (n : Level). IsLonger c.args.book.now c.levels.level.starting.items c.levels.level.passing.items n.starting.items n.passing.items) (sym c.swap.ensures.x_after) made in
+    let made : AreExtensions c.args.book.now c.levels.level.starting.items c.levels.level.passing.items c.longer-in-levels.new.next.starting.items c.longer-in-levels.new.next.passing.items =
+    subst (λ xs. AreExtensions c.args.book.now xs c.levels.level.passing.items c.longer-in-levels.new.next.starting.items c.longer-in-levels.new.next.passing.items) c.deref.ensures.value
+    (subst (λ ys. AreExtensions c.args.book.now c.deref.result.now ys c.longer-in-levels.new.next.starting.items c.longer-in-levels.new.next.passing.items) c.deref-in-levels.ensures.value c.in_ok-longer-2.ensures.longer) in
+    let longer : AreExtensions c.args.book.now c.levels.level.starting.items c.levels.level.passing.items c.swap.new.x.starting.items c.swap.new.x.passing.items =
+    subst (λ (n : Level). AreExtensions c.args.book.now c.levels.level.starting.items c.levels.level.passing.items n.starting.items n.passing.items) (sym c.swap.ensures.x_after) made in
     walk_goes_on c.args.book.now c.longer.ensures.lawful c.args.v c.requires.vertex c.levels.level.starting.items c.levels.level.passing.items c.levels.ids.items c.levels.invariant
     c.swap.new.x.starting.items c.swap.new.x.passing.items c.push_level-in-levels.new.ids.items longer c.in_ok-push_level-2.ensures
 
 pub returns : goal.returns
 returns g c =
     let none = c.is_empty.ensures.none c.levels-test.false in
-    let victims : IsVictims c.args.book.now c.args.v c.levels.ids.items = walk_ends c.args.book.now c.longer.ensures.lawful c.args.v c.requires.vertex c.levels.level.starting.items c.levels.level.passing.items c.levels.ids.items c.levels.invariant none.0 none.1 in
-    record { all = victims; live = victims_live c.args.book.now c.longer.ensures.lawful c.args.v c.levels.ids.items victims }
+    record { all = walk_ends c.args.book.now c.longer.ensures.lawful c.args.v c.requires.vertex c.levels.level.starting.items c.levels.level.passing.items c.levels.ids.items c.levels.invariant none.0 none.1 }

@@ -4,7 +4,7 @@ use Rattle.apsp_model.specs.declared.TheConstants.{MOST_VERTICES}
 use Rattle.std.proofs.lemmas.List.Elements.{Contains-append_left, Contains-append_right}
 use Rattle.path_arena.specs.Arena.{Arena, list_of}
 use Rattle.apsp_model.specs.Walk.{first}
-use Rattle.cleanup_tasks.specs.Walk.{IsLonger}
+use Rattle.cleanup_tasks.specs.Walk.{AreExtensions}
 use Rattle.cleanup_tasks.proofs.Under.{begins_is, from_starts, from_live, from_goes_on, from_most, from_ends}
 use Rattle.cleanup_tasks.proofs.tasks.levels_from.Goals as goal
 
@@ -31,9 +31,9 @@ levels-smaller c =
 
 pub levels-preserved : goal.levels-preserved
 levels-preserved c =
-    let longer : IsLonger c.args.book.now c.levels.level.starting.items c.levels.level.passing.items c.longer.new.next.starting.items c.longer.new.next.passing.items =
-    subst (λ xs. IsLonger c.args.book.now xs c.levels.level.passing.items c.longer.new.next.starting.items c.longer.new.next.passing.items) c.deref.ensures.value
-    (subst (λ ys. IsLonger c.args.book.now c.deref.result.now ys c.longer.new.next.starting.items c.longer.new.next.passing.items) c.deref-in-levels.ensures.value c.in_ok-longer.ensures.longer) in
+    let longer : AreExtensions c.args.book.now c.levels.level.starting.items c.levels.level.passing.items c.longer.new.next.starting.items c.longer.new.next.passing.items =
+    subst (λ xs. AreExtensions c.args.book.now xs c.levels.level.passing.items c.longer.new.next.starting.items c.longer.new.next.passing.items) c.deref.ensures.value
+    (subst (λ ys. AreExtensions c.args.book.now c.deref.result.now ys c.longer.new.next.starting.items c.longer.new.next.passing.items) c.deref-in-levels.ensures.value c.in_ok-longer.ensures.longer) in
     from_goes_on c.args.book.now c.requires.lawful c.args.v c.requires.vertex c.args.edge c.levels.levels.items c.levels.level c.levels.invariant c.longer.new.next c.push.new.self.items longer c.in-Ok.ensures.items
 
 pub returns : goal.returns

@@ -1,5 +1,5 @@
 use Rattle.std.proofs.Common.{◌≡◌, ℕ, ◌-◌, ◌<◌, All, slice_index_or}
-use Rattle.task_pool.specs.Lists.{total}
+use Rattle.apsp_model.specs.Totals.{total}
 use Rattle.task_pool.specs.Shares.{ALL_PARTS}
 use Rattle.task_pool.specs.States.{IsRow, AreStates, IsFresh, pushed_at}
 use Rattle.task_pool.specs.declared.work.WorkerState.{WorkerState}

@@ -3,8 +3,8 @@ use Rattle.crossbeam_deque.specs.Handles.{view, worker_deque, worker_view}
 use Rattle.task_pool.specs.declared.deque.Account.{Account}
 use Rattle.task_pool.specs.declared.work.WorkerState.{WorkerState}
 use Rattle.task_pool.specs.Lists.{times}
-use Rattle.task_pool.specs.States.{Thief, Passed, Fits, AreFitting, IsState, IsSame, took_in}
-use Rattle.task_pool.proofs.Totals.{total-append}
+use Rattle.task_pool.specs.States.{Thief, Passed, IsEmptyPassOf, AreFitting, IsState, OwnerAlone, took_in}
+use Rattle.apsp_model.proofs.Totals.{total-append}
 use Rattle.task_pool.proofs.Places.{one_of, at_place, fits_push, fits_new, state_less, same_then, low_up, high_up, same_set, set_or}
 use Rattle.task_pool.proofs.deal.row.Goals as goal
 
@@ -63,7 +63,7 @@ loop-at-preserved g c =
     let pass = c.pass_of-pass.result in record {
       len = len;
       long = omega arith;
-      fit = subst (AreFitting ts) (sym p) (fits_push ts all pass inv.fit (omega arith) (λ t. subst (λ (k : ℕ). Fits (get_or ts k t) pass) at_is (fits_new ts at t pass (worker_deque d0.owner) (i t).deque e.same.1 e.new)));
+      fit = subst (AreFitting ts) (sym p) (fits_push ts all pass inv.fit (omega arith) (λ t. subst (λ (k : ℕ). IsEmptyPassOf (get_or ts k t) pass) at_is (fits_new ts at t pass (worker_deque d0.owner) (i t).deque e.same.1 e.new)));
       none_taken = λ x.
           let a = ap (took_in x) p in
           let b = total-append (λ (q : Passed). times x (view q).took) all (pass ∷ []) in
@@ -73,7 +73,7 @@ loop-at-preserved g c =
       low = low_up c.args.parts ts items at d1 low inv.low (λ t. state_less c.args.parts (get_or ts at t) d0 d1 (i t) e.same.0 e.rest);
       high = λ j t d hi lt. high_up (c.args.parts + 1) ts items at d1 (λ j t d h l. inv.high j t d h (omega arith)) j t d hi (omega arith);
       same = λ j d lt. same_set start items at d1 (λ j d l. inv.same j d (omega arith))
-          (λ d l. same_then (get_or start at d) d0 d1 (at_place (IsSame (get_or start at d)) items at d0 d low is (inv.same at d (omega arith))) refl refl (ap (λ (h : Account). h.pushed) e.rest)) j d (omega arith);
+          (λ d l. same_then (get_or start at d) d0 d1 (at_place (OwnerAlone (get_or start at d)) items at d0 d low is (inv.same at d (omega arith))) refl refl (ap (λ (h : Account). h.pushed) e.rest)) j d (omega arith);
       took = λ j d lt. set_or (λ (z : WorkerState g.row.T.Denot). (worker_view z.owner).took ≡ (worker_view (get_or start j d).owner).took) items at j d1 d (omega arith)
           (λ same. subst (λ (k : ℕ). (worker_view d1.owner).took ≡ (worker_view (get_or start k d).owner).took) (sym same)
           (ap (λ (h : Account). h.took) e.rest ∙ at_place (λ (z : WorkerState g.row.T.Denot). (worker_view z.owner).took ≡ (worker_view (get_or start at d).owner).took) items at d0 d low is (inv.took at d (omega arith))))

@@ -4,9 +4,10 @@ use Rattle.std.proofs.lemmas.List.Elements.{All-push}
 use Rattle.std.proofs.Math.Nat.{mul-div_cancel_left}
 use Rattle.task_pool.specs.declared.deque.Account.{Account}
 use Rattle.task_pool.specs.declared.work.WorkerState.{WorkerState}
-use Rattle.task_pool.specs.Lists.{times, total, once_below}
+use Rattle.apsp_model.specs.Totals.{total}
+use Rattle.task_pool.specs.Lists.{times, once_below}
 use Rattle.task_pool.specs.States.{OwnsAll, IsFresh, pushed_at, took_in}
-use Rattle.task_pool.proofs.Totals.{total-append}
+use Rattle.apsp_model.proofs.Totals.{total-append}
 use Rattle.task_pool.proofs.Listing.{times-range}
 use Rattle.task_pool.proofs.deal.states.Goals as goal
 

@@ -1,5 +1,6 @@
 use Rattle.std.proofs.Common.{◌≡◌, ℕ, ◌*◌, ◌/◌, All, vec_len}
-use Rattle.task_pool.specs.Lists.{total, once_below}
+use Rattle.apsp_model.specs.Totals.{total}
+use Rattle.task_pool.specs.Lists.{once_below}
 use Rattle.task_pool.specs.States.{pushed_at, IsFresh, OwnsAll}
 use Rattle.task_pool.proofs.deal.states.Given as goal
 

@@ -1,5 +1,5 @@
 use Rattle.std.proofs.Common.{◌≡◌, ℕ, ◌+◌, ◌<◌, ◌≤◌, vec_len, slice_index_or}
-use Rattle.task_pool.specs.Lists.{total}
+use Rattle.apsp_model.specs.Totals.{total}
 use Rattle.task_pool.specs.States.{IsRow, AreStates, took_in, took_all, pushed_at}
 use Rattle.task_pool.specs.declared.work.WorkerState.{WorkerState}
 use Rattle.task_pool.proofs.deal.take_all.Given as goal

@@ -3,8 +3,9 @@ use Rattle.crossbeam_deque.specs.Handles.{view, IsPassOf, worker_view}
 use Rattle.task_pool.specs.declared.deque.Account.{Account}
 use Rattle.task_pool.specs.declared.work.WorkerState.{WorkerState}
 use Rattle.task_pool.specs.Lists.{times}
-use Rattle.task_pool.specs.States.{Thief, Passed, Fits, IsState, IsSame, took_in, took_at}
-use Rattle.task_pool.proofs.Totals.{total-append, times-append}
+use Rattle.task_pool.specs.States.{Thief, Passed, IsEmptyPassOf, IsState, OwnerAlone, took_in, took_at}
+use Rattle.apsp_model.proofs.Totals.{total-append}
+use Rattle.task_pool.proofs.Times.{times-append}
 use Rattle.task_pool.proofs.Places.{one_of, nil_right, at_place, fits_pop, state_more, same_then, low_down, high_down, same_set, total-step}
 use Rattle.task_pool.proofs.deal.take_row.Goals as goal
 
@@ -42,7 +43,7 @@ take_in-requires g c =
     let t = one_of ts k (omega arith) in
     let d0 : WorkerState g.row.T.Denot = c.index_mut.result.now in
     let i = at_place (IsState c.args.parts (get_or ts k t)) items k d0 d0 low c.index_mut.ensures.value (inv.low k t d0 (omega arith)) in
-    let fit = subst (λ (n : ℕ). Fits (get_or ts n t) c.in-Some.pass) k_is (f.2 t) in
+    let fit = subst (λ (n : ℕ). IsEmptyPassOf (get_or ts n t) c.in-Some.pass) k_is (f.2 t) in
     let parts = i.parts_are in
     let some = c.requires.some in
     (subst (λ z. IsPassOf z c.in-Some.pass) (sym i.deque) fit.0, omega arith)
@@ -71,7 +72,7 @@ loop-pass-preserved g c =
     let d1 : WorkerState g.row.T.Denot = record { owner = c.take_in.new.owner; passes = d0.passes; done = d0.done; short = d0.short } in
     let is = c.index_mut.ensures.value in
     let e = c.take_in.ensures in
-    let fit : (t : Thief) → Fits (get_or ts k t) pass = λ t. subst (λ (n : ℕ). Fits (get_or ts n t) pass) k_is (f.2 t) in
+    let fit : (t : Thief) → IsEmptyPassOf (get_or ts k t) pass = λ t. subst (λ (n : ℕ). IsEmptyPassOf (get_or ts n t) pass) k_is (f.2 t) in
     let i : (t : Thief) → IsState c.args.parts (get_or ts k t) d0 = λ t. at_place (IsState c.args.parts (get_or ts k t)) items k d0 d0 low is (inv.low k t d0 (omega arith)) in
     let t0 = one_of ts k (omega arith) in
     let pushed = ap (λ (h : Account). h.pushed) e.both ∙ (ap (λ (l : List ℕ). (worker_view d0.owner).pushed ++ l) (fit t0).2 ∙ nil_right (worker_view d0.owner).pushed) in record {
@@ -79,7 +80,7 @@ loop-pass-preserved g c =
       fit = f.0;
       low = λ j t d l. low_down c.args.parts ts items k d1 low (λ j t d l. inv.low j t d (omega arith)) j t d (omega arith);
       high = λ j t d hi lt. high_down (c.args.parts + 1) ts items k d1 (λ j t d h l. inv.high j t d (omega arith) (omega arith)) (λ t. state_more c.args.parts (get_or ts k t) d0 d1 (view pass) (i t) e.same (fit t).1 e.both) j t d (omega arith) (omega arith);
-      same = λ j d lt. same_set start items k d1 (λ j d l. inv.same j d (omega arith)) (λ d l. same_then (get_or start k d) d0 d1 (at_place (IsSame (get_or start k d)) items k d0 d low is (inv.same k d (omega arith))) refl refl pushed) j d (omega arith);
+      same = λ j d lt. same_set start items k d1 (λ j d l. inv.same j d (omega arith)) (λ d l. same_then (get_or start k d) d0 d1 (at_place (OwnerAlone (get_or start k d)) items k d0 d low is (inv.same k d (omega arith))) refl refl pushed) j d (omega arith);
       took = λ x.
           let s = total-step (took_at x) items k d0 d1 low is in
           let a = ap (λ (h : Account). times x h.took) e.both in

@@ -1,6 +1,6 @@
 use Rattle.std.proofs.Common.{arith, ap, ◌∙◌, ℕ, List, [], ◌∷◌, ◌++◌, ◌+◌}
 use Rattle.task_pool.specs.Shares.{account, ALL_PARTS}
-use Rattle.task_pool.proofs.Totals.{from_on-snoc}
+use Rattle.task_pool.proofs.Times.{from_on-snoc}
 use Rattle.task_pool.proofs.Steps.{pushes}
 use Rattle.task_pool.proofs.deque.filled.Goals as goal
 

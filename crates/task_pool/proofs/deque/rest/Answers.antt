@@ -1,7 +1,7 @@
 use Rattle.std.proofs.Common.{arith, ap, ◌∙◌, [], ◌∷◌}
 use Rattle.crossbeam_deque.specs.Handles.{worker_view}
 use Rattle.task_pool.specs.Lists.{times}
-use Rattle.task_pool.proofs.Totals.{times-append}
+use Rattle.task_pool.proofs.Times.{times-append}
 use Rattle.task_pool.proofs.deque.rest.Goals as goal
 
 pub loop-task-preserved : goal.loop-task-preserved

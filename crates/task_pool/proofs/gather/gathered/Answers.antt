@@ -1,9 +1,11 @@
 use Rattle.std.proofs.Common.{ap, sym, ◌∙◌, subst, arith, ◌∷◌, [], List, Some, All}
 use Rattle.std.proofs.lemmas.List.Elements.{All-pop, All-append}
 use Rattle.task_pool.specs.declared.work.WorkerState.{WorkerState}
-use Rattle.task_pool.specs.Lists.{times, total}
+use Rattle.apsp_model.specs.Totals.{total}
+use Rattle.task_pool.specs.Lists.{times}
 use Rattle.task_pool.specs.States.{OwnsAll, IsRight, tasks_of, pushed_at, took_at, did_at}
-use Rattle.task_pool.proofs.Totals.{total-append, times-append}
+use Rattle.apsp_model.proofs.Totals.{total-append}
+use Rattle.task_pool.proofs.Times.{times-append}
 use Rattle.task_pool.proofs.Listing.{tasks_of-append}
 use Rattle.task_pool.proofs.gather.gathered.Goals as goal
 

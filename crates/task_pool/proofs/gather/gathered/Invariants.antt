@@ -1,5 +1,6 @@
 use Rattle.std.proofs.Common.{◌≡◌, ℕ, ◌+◌, ◌<◌, All, vec_len}
-use Rattle.task_pool.specs.Lists.{total, times}
+use Rattle.apsp_model.specs.Totals.{total}
+use Rattle.task_pool.specs.Lists.{times}
 use Rattle.task_pool.specs.States.{tasks_of, IsRight, OwnsAll, pushed_at, took_at, did_at}
 use Rattle.task_pool.proofs.gather.gathered.Given as goal
 

@@ -1,7 +1,8 @@
 use Rattle.std.proofs.Common.{◌≡◌, ℕ, ◌-◌, ◌<◌, ◌≤◌, ap, sym, ◌∙◌, subst, refl, arith, length, get_or, drop, take, ◌++◌, [], ◌∷◌, List, zero, suc}
 use Rattle.task_pool.specs.declared.work.WorkerState.{WorkerState}
 use Rattle.task_pool.specs.Shares.{ALL_PARTS}
-use Rattle.task_pool.specs.Lists.{times, total}
+use Rattle.apsp_model.specs.Totals.{total}
+use Rattle.task_pool.specs.Lists.{times}
 use Rattle.task_pool.specs.States.{Thief, AreStates, SameOwner, pushed_at}
 use Rattle.task_pool.proofs.Places.{nil_right, total-equal}
 use Rattle.task_pool.proofs.gather.spread_all.Goals as goal

@@ -1,7 +1,7 @@
 use Rattle.std.proofs.Common.{ap, ◌∙◌}
 use Rattle.task_pool.specs.Lists.{times}
 use Rattle.task_pool.specs.States.{tasks_of}
-use Rattle.task_pool.proofs.Totals.{times-snoc}
+use Rattle.task_pool.proofs.Times.{times-snoc}
 use Rattle.task_pool.proofs.Listing.{tasks_of-snoc}
 use Rattle.task_pool.proofs.work.answer.Goals as goal
 

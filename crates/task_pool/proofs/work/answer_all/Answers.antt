@@ -1,6 +1,6 @@
 use Rattle.std.proofs.Common.{ap, arith}
 use Rattle.task_pool.specs.Lists.{times}
-use Rattle.task_pool.proofs.Totals.{times-snoc}
+use Rattle.task_pool.proofs.Times.{times-snoc}
 use Rattle.task_pool.proofs.work.answer_all.Goals as goal
 
 pub loop-task-preserved : goal.loop-task-preserved

@@ -2,7 +2,7 @@ use Rattle.std.proofs.Common.{ap, arith}
 use Rattle.crossbeam_deque.specs.Handles.{worker_view}
 use Rattle.task_pool.specs.declared.deque.Account.{Account}
 use Rattle.task_pool.specs.Lists.{times}
-use Rattle.task_pool.proofs.Totals.{times-snoc}
+use Rattle.task_pool.proofs.Times.{times-snoc}
 use Rattle.task_pool.proofs.work.own_task.Goals as goal
 
 pub returns-in_ok-answer-in-Some-clause-worked : goal.returns-in_ok-answer-in-Some-clause-worked

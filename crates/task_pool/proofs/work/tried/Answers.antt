@@ -2,7 +2,7 @@ use Rattle.std.proofs.Common.{◌≡◌, ◌<◌, sym, ◌∙◌, subst, arith, 
 use Rattle.std.proofs.lemmas.List.{get_or_default}
 use Rattle.crossbeam_deque.specs.Handles.{view, IsPassOf, stealer_deque, stealer_flavor}
 use Rattle.task_pool.specs.Lists.{times}
-use Rattle.task_pool.specs.States.{Passed, Thief, Fits}
+use Rattle.task_pool.specs.States.{Passed, Thief, IsEmptyPassOf}
 use Rattle.task_pool.proofs.Places.{row_set, total-step, kept, at_place}
 use Rattle.task_pool.proofs.work.tried.Goals as goal
 
@@ -18,8 +18,8 @@ stolen-requires c =
     let items = c.args.passes.now.items in
     let low : at < length items = omega arith in
     let p0 : Passed = c.index_mut.result.now in
-    let fit : Fits (get_or ts at th) p0 = at_place (Fits (get_or ts at th)) items at p0 p0 low c.index_mut.ensures.value (row.1.each at th p0 low) in
-    let mine : Fits th p0 = subst (λ (s : Thief). Fits s p0) (sym is_t) fit in
+    let fit : IsEmptyPassOf (get_or ts at th) p0 = at_place (IsEmptyPassOf (get_or ts at th)) items at p0 p0 low c.index_mut.ensures.value (row.1.each at th p0 low) in
+    let mine : IsEmptyPassOf th p0 = subst (λ (s : Thief). IsEmptyPassOf s p0) (sym is_t) fit in
     let one = mine.1 in
     (mine.0, subst (λ (s : Thief). stealer_flavor s ≡ 0) (sym is_t) (c.requires.fifo at th low_t), omega arith)
 
@@ -36,7 +36,7 @@ returns-clause-row c =
     let low : at < length items = omega arith in
     let p0 : Passed = c.index_mut.result.now in
     let p1 : Passed = c.stolen.new.pass in
-    let fit : Fits (get_or ts at th) p0 = at_place (Fits (get_or ts at th)) items at p0 p0 low c.index_mut.ensures.value (row.1.each at th p0 low) in
+    let fit : IsEmptyPassOf (get_or ts at th) p0 = at_place (IsEmptyPassOf (get_or ts at th)) items at p0 p0 low c.index_mut.ensures.value (row.1.each at th p0 low) in
     let k = kept c.stolen.result (view p0) (view p1) c.stolen.ensures.took c.stolen.ensures.none in
     row_set ts items at p1 row (λ t. (subst (λ (s : Thief). IsPassOf (stealer_deque s) p1) (is_t ∙ get_or_default ts at th t low_t) c.stolen.ensures.same.0, k.0 ∙ fit.1, k.1 ∙ fit.2))
 
