@@ -1,4 +1,4 @@
--- Lists of joins that grow, partner by partner and winner by winner. Serves `list_side`, `list_all`, `list_winner`, `list_alone`,
+-- Lists of joins that grow, partner by partner and winner by winner. Serves `list_side`, `push_all`, `list_winner`, `list_alone`,
 -- `list_by_tasks` and `promote_class`.
 use Rattle.std.specs.Prelude.{◌≡◌, ℕ, Some, ◌+◌, ◌<◌, ◌≤◌, ◌⊎◌, ◌↔◌, zero, suc, List, [], ◌∷◌, ◌++◌, length, take, map, slice_index, refl, Contains}
 use Rattle.std.specs.declared.cmp.Ordering.{Ordering}
@@ -11,7 +11,7 @@ use Rattle.std.proofs.lemmas.List.Elements.{Contains-push_cases, Contains-append
 use Rattle.std.proofs.lemmas.Map.Lookups.{exact_bytes}
 use Rattle.apsp_model.specs.Walk.{IsOnceEach, hops_of}
 use Rattle.apsp_model.proofs.Members.{in_cons, in_nil, head_in, tail_in, once_append}
-use Rattle.path_arena.specs.Arena.{Arena, left_of, right_of, id_cmp, list_of, weight_of, IsLive, HasAnEdge}
+use Rattle.path_arena.specs.Arena.{Arena, left_of, right_of, id_cmp, list_of, weight_of_id, IsLive, HasAnEdge}
 use Rattle.path_arena.proofs.Paths.{live_from_edge}
 use Rattle.pair_heaps.proofs.Orders.{id_cmp_total}
 use Rattle.extension_lists.specs.Known.{sides_at}
@@ -19,8 +19,8 @@ use Rattle.path_book.specs.Book.{Book, IsMarked, IsBook}
 use Rattle.fixup.specs.declared.listing.Join.{Join}
 use Rattle.fixup.specs.declared.listing.Side.{Side}
 use Rattle.fixup.specs.declared.listing.Side.TheVariants.{Left, Right}
-use Rattle.fixup.specs.Owing.{CanBeWinners, IsPromoted, AreOwed, IsOwed}
-use Rattle.fixup.specs.Listing.{AreAdded, Lists, ListsFrom, ListsAt, ListedByAny, Class, Yields, join_at}
+use Rattle.fixup.specs.Owing.{CanBeWinners, AreOwed, IsOwed}
+use Rattle.fixup.specs.Listing.{AreAdded, Lists, ListsFrom, ListsAt, ListedByAny, Class, Yields, all_joins, join_at}
 use Rattle.fixup.proofs.Parts.{not_its_partner}
 
 -- ---- lists without repetitions
@@ -69,7 +69,7 @@ then_third Greater s t e = cc
 
 -- ids whose paths tie have one list
 same_list : (a : Arena) (l r : ℕ) → id_cmp a l r ≡ Equal → list_of a l ≡ list_of a r
-same_list a l r e = exact_bytes (list_of a l) (list_of a r) (then_third (nat_cmp (weight_of a l) (weight_of a r)) (nat_cmp (hops_of (list_of a l)) (hops_of (list_of a r))) _ e)
+same_list a l r e = exact_bytes (list_of a l) (list_of a r) (then_third (nat_cmp (weight_of_id a l) (weight_of_id a r)) (nat_cmp (hops_of (list_of a l)) (hops_of (list_of a r))) _ e)
 
 -- ---- what is added
 
@@ -103,10 +103,10 @@ pub added_behind : (P : Join → Type 0) (old list new : List Join) → AreAdded
 added_behind P old list new a is = record { more = a.more; is = is ∙ ap (λ l. old ++ l) a.is; once = a.once; are = a.are }
 
 -- what a task lists of a class, seen as its book and its winners
-pub task_listed : (seen : Class) (b : Book) (winners : List ℕ) (order : Ordering) (k d : ℕ) (old joins : List Join) → record { book = b; winners = winners; order = order } ≡ seen → k < length winners → old ≡ [] → AreAdded (Lists b winners order (get_or winners k d)) old joins → ListsAt seen k joins
-task_listed seen b winners order k d old joins is inside none added =
+pub task_listed : (seen : Class) (b : Book) (winners : List ℕ) (k d : ℕ) (old joins : List Join) → record { book = b; winners = winners } ≡ seen → k < length winners → old ≡ [] → AreAdded (Lists b winners (get_or winners k d)) old joins → ListsAt seen k joins
+task_listed seen b winners k d old joins is inside none added =
     subst (λ (c : Class). ListsAt c k joins) is
-    (subst (λ w. AreAdded (Lists b winners order w) [] joins) (get_or_default winners k d 0 inside) (subst (λ xs. AreAdded (Lists b winners order (get_or winners k d)) xs joins) none added))
+    (subst (λ w. AreAdded (Lists b winners w) [] joins) (get_or_default winners k d 0 inside) (subst (λ xs. AreAdded (Lists b winners (get_or winners k d)) xs joins) none added))
 
 -- ---- the partners on one side
 
@@ -151,9 +151,9 @@ sole (x ∷ []) w q one in_w in_q = elim (in_cons w x [] in_w) [
 sole (x ∷ y ∷ xs) w q one in_w in_q = let k : ⊥ = omega (arith, one) in absurd k
 
 -- the only winner lists its joins with all its partners
-pub side_whole : (a : Arena) (winners : List ℕ) (order : Ordering) (w : ℕ) (side : Side) (partners : List ℕ) → length winners ≡ 1 → Contains winners w → ((q : ℕ) → Contains partners q → q ≡ w → ⊥) → IsOnceEach partners
-    → (old new : List Join) → new ≡ old ++ map (join_at side w) partners → AreAdded (ListsFrom a winners order w side partners) old new
-side_whole a winners order w side partners only one apart once old new is = record {
+pub side_whole : (a : Arena) (winners : List ℕ) (w : ℕ) (side : Side) (partners : List ℕ) → length winners ≡ 1 → Contains winners w → ((q : ℕ) → Contains partners q → q ≡ w → ⊥) → IsOnceEach partners
+    → (old new : List Join) → new ≡ old ++ map (join_at side w) partners → AreAdded (ListsFrom a winners w side partners) old new
+side_whole a winners w side partners only one apart once old new is = record {
   more = map (join_at side w) partners;
   is = is;
   once = mapped_once (join_at side w) (same_partner side w) partners once;
@@ -164,10 +164,10 @@ side_whole a winners order w side partners only one apart once old new is = reco
   );
 }
 
-module _ (a : Arena) (winners : List ℕ) (order : Ordering) (w : ℕ) (side : Side) (partners : List ℕ) where
+module _ (a : Arena) (winners : List ℕ) (w : ℕ) (side : Side) (partners : List ℕ) where
   -- the partners before a place
   abbrev pub Upto : ℕ → Join → Type 0
-  Upto i = ListsFrom a winners order w side (take i partners)
+  Upto i = ListsFrom a winners w side (take i partners)
 
   pub side_starts : (xs : List Join) → AreAdded (Upto 0) xs xs
   side_starts xs = added_none (Upto 0) xs (λ j h. in_nil h.0 (take_zero h.0 h.1))
@@ -179,19 +179,19 @@ module _ (a : Arena) (winners : List ℕ) (order : Ordering) (w : ℕ) (side : S
           go [] c = c
           go (p ∷ ps) c = c
 
-  pub side_ends : (i : ℕ) (old new : List Join) → length partners ≤ i → AreAdded (Upto i) old new → AreAdded (ListsFrom a winners order w side partners) old new
-  side_ends i old new all h = subst (λ ps. AreAdded (ListsFrom a winners order w side ps) old new) (take_all i partners all) h
+  pub side_ends : (i : ℕ) (old new : List Join) → length partners ≤ i → AreAdded (Upto i) old new → AreAdded (ListsFrom a winners w side partners) old new
+  side_ends i old new all h = subst (λ ps. AreAdded (ListsFrom a winners w side ps) old new) (take_all i partners all) h
 
   module _ (once : IsOnceEach partners) (i q : ℕ) (inside : i < length partners) (at : q ≡ get_or partners i q) (old new : List Join) (before : AreAdded (Upto i) old new) where
     -- the partner does not yield
-    pub side_passes : (Yields a winners order w q → ⊥) → AreAdded (Upto (i + 1)) old new
+    pub side_passes : (Yields a winners w q → ⊥) → AreAdded (Upto (i + 1)) old new
     side_passes not = added_as (Upto i) (Upto (i + 1)) old new (λ j. (
       λ h. (h.0, take_old partners i q inside at h.0 h.1, h.2, h.3),
-      λ h. elim (take_cases partners i q inside at h.0 h.1) [ inl earlier ↦ (h.0, earlier, h.2, h.3) | inr same ↦ absurd (not (subst (Yields a winners order w) same h.2)) ],
+      λ h. elim (take_cases partners i q inside at h.0 h.1) [ inl earlier ↦ (h.0, earlier, h.2, h.3) | inr same ↦ absurd (not (subst (Yields a winners w) same h.2)) ],
     )) before
 
     -- it does, and its join is listed
-    pub side_lists : Yields a winners order w q → (later : List Join) → later ≡ new ++ join_at side w q ∷ [] → AreAdded (Upto (i + 1)) old later
+    pub side_lists : Yields a winners w q → (later : List Join) → later ≡ new ++ join_at side w q ∷ [] → AreAdded (Upto (i + 1)) old later
     side_lists yields later is = added_as (λ j. Upto i j ⊎ (j ≡ join_at side w q)) (Upto (i + 1)) old later (λ j. (
       λ h. elim h [ inl earlier ↦ (earlier.0, take_old partners i q inside at earlier.0 earlier.1, earlier.2, earlier.3) | inr same ↦ (q, take_new partners i q inside at, yields, same) ],
       λ h. elim (take_cases partners i q inside at h.0 h.1) [ inl earlier ↦ inl (h.0, earlier, h.2, h.3) | inr same ↦ inr (h.3 ∙ ap (join_at side w) same) ],
@@ -200,30 +200,30 @@ module _ (a : Arena) (winners : List ℕ) (order : Ordering) (w : ℕ) (side : S
 
 -- ---- both sides of a winner
 
-module _ (b : Book) (winners : List ℕ) (order : Ordering) (w : ℕ) (lawful : IsBook b) (edge : HasAnEdge b.arena w) (fs rs : List ℕ)
+module _ (b : Book) (winners : List ℕ) (w : ℕ) (lawful : IsBook b) (edge : HasAnEdge b.arena w) (fs rs : List ℕ)
     (fronts : (q : ℕ) → Contains fs q ↔ ((right_of b.arena q ≡ left_of b.arena w) × IsMarked b q))
     (behinds : (q : ℕ) → Contains rs q ↔ ((left_of b.arena q ≡ right_of b.arena w) × IsMarked b q)) where
-  pub winner_listed : (old mid new : List Join) → AreAdded (ListsFrom b.arena winners order w Left fs) old mid → AreAdded (ListsFrom b.arena winners order w Right rs) mid new → AreAdded (Lists b winners order w) old new
-  winner_listed old mid new left right = added_as (λ j. ListsFrom b.arena winners order w Left fs j ⊎ ListsFrom b.arena winners order w Right rs j) (Lists b winners order w) old new both
-      (added_both (ListsFrom b.arena winners order w Left fs) (ListsFrom b.arena winners order w Right rs) old mid new left right apart)
+  pub winner_listed : (old mid new : List Join) → AreAdded (ListsFrom b.arena winners w Left fs) old mid → AreAdded (ListsFrom b.arena winners w Right rs) mid new → AreAdded (Lists b winners w) old new
+  winner_listed old mid new left right = added_as (λ j. ListsFrom b.arena winners w Left fs j ⊎ ListsFrom b.arena winners w Right rs j) (Lists b winners w) old new both
+      (added_both (ListsFrom b.arena winners w Left fs) (ListsFrom b.arena winners w Right rs) old mid new left right apart)
     where
       -- a winner is not its own partner
-      apart : (j : Join) → ListsFrom b.arena winners order w Left fs j → ListsFrom b.arena winners order w Right rs j → ⊥
+      apart : (j : Join) → ListsFrom b.arena winners w Left fs j → ListsFrom b.arena winners w Right rs j → ⊥
       apart j h k =
           let same : h.0 ≡ w = sym (ap (λ (i : Join). i.left) h.3) ∙ ap (λ (i : Join). i.left) k.3 in
           not_its_partner b.arena w lawful.arena edge (ap (right_of b.arena) (sym same) ∙ ((fronts h.0).0 h.1).0)
 
-      both : (j : Join) → (ListsFrom b.arena winners order w Left fs j ⊎ ListsFrom b.arena winners order w Right rs j) ↔ Lists b winners order w j
+      both : (j : Join) → (ListsFrom b.arena winners w Left fs j ⊎ ListsFrom b.arena winners w Right rs j) ↔ Lists b winners w j
       both j = (
         λ h. elim h [
           | inl front ↦
               let is : j.left ≡ front.0 = ap (λ (i : Join). i.left) front.3 in
               let m : (right_of b.arena front.0 ≡ left_of b.arena w) × IsMarked b front.0 = (fronts front.0).0 front.1 in
-              inl (ap (λ (i : Join). i.right) front.3, subst (IsMarked b) (sym is) m.1, ap (right_of b.arena) is ∙ m.0, subst (Yields b.arena winners order w) (sym is) front.2)
+              inl (ap (λ (i : Join). i.right) front.3, subst (IsMarked b) (sym is) m.1, ap (right_of b.arena) is ∙ m.0, subst (Yields b.arena winners w) (sym is) front.2)
           | inr behind ↦
               let is : j.right ≡ behind.0 = ap (λ (i : Join). i.right) behind.3 in
               let m : (left_of b.arena behind.0 ≡ right_of b.arena w) × IsMarked b behind.0 = (behinds behind.0).0 behind.1 in
-              inr (ap (λ (i : Join). i.left) behind.3, subst (IsMarked b) (sym is) m.1, ap (left_of b.arena) is ∙ m.0, subst (Yields b.arena winners order w) (sym is) behind.2)
+              inr (ap (λ (i : Join). i.left) behind.3, subst (IsMarked b) (sym is) m.1, ap (left_of b.arena) is ∙ m.0, subst (Yields b.arena winners w) (sym is) behind.2)
         ],
         λ h. elim h [
           | inl front ↦ inl (j.left, (fronts j.left).1 (front.2, front.1), front.3, λ i. record { left = j.left; right = front.0 i })
@@ -231,18 +231,25 @@ module _ (b : Book) (winners : List ℕ) (order : Ordering) (w : ℕ) (lawful : 
         ],
       )
 
+  -- the only winner lists its joins with all its partners
+  pub winner_whole : length winners ≡ 1 → Contains winners w → IsOnceEach fs → IsOnceEach rs → (old new : List Join) → new ≡ old ++ all_joins w fs rs → AreAdded (Lists b winners w) old new
+  winner_whole only one once_fs once_rs old new is =
+      let mid : List Join = old ++ map (join_at Left w) fs in
+      winner_listed old mid new (side_whole b.arena winners w Left fs only one before once_fs old mid refl)
+      (side_whole b.arena winners w Right rs only one after once_rs mid new (is ∙ sym (append_assoc old (map (join_at Left w) fs) (map (join_at Right w) rs))))
+    where
+      before : (q : ℕ) → Contains fs q → q ≡ w → ⊥
+      before q m same = not_its_partner b.arena w lawful.arena edge (ap (right_of b.arena) (sym same) ∙ ((fronts q).0 m).0)
+
+      after : (q : ℕ) → Contains rs q → q ≡ w → ⊥
+      after q m same = not_its_partner b.arena w lawful.arena edge (sym ((behinds q).0 m).0 ∙ ap (left_of b.arena) same)
+
 -- ---- all winners
 
--- an order that is its own reverse ties
-own_reverse : (o : Ordering) → o ≡ ordering_reverse o → o ≡ Equal
-own_reverse Less e = cc
-own_reverse Equal e = refl
-own_reverse Greater e = cc
-
-module _ (b : Book) (winners : List ℕ) (order : Ordering) (class : CanBeWinners b winners) where
+module _ (b : Book) (winners : List ℕ) (class : CanBeWinners b winners) where
   -- the joins that the winners before a place list
   abbrev pub ListedBy : ℕ → Join → Type 0
-  ListedBy i j = (w : ℕ) × Contains (take i winners) w × Lists b winners order w j
+  ListedBy i j = (w : ℕ) × Contains (take i winners) w × Lists b winners w j
 
   pub all_start : (xs : List Join) → AreAdded (ListedBy 0) xs xs
   all_start xs = added_none (ListedBy 0) xs (λ j h. in_nil h.0 (go winners h.0 h.1))
@@ -254,30 +261,28 @@ module _ (b : Book) (winners : List ℕ) (order : Ordering) (class : CanBeWinner
   live : (w : ℕ) → Contains winners w → IsLive b.arena w
   live w c = live_from_edge b.arena w class.lawful.arena (class.edge w c)
 
-  -- two winners that stand in one order to each other are one
-  one_order : (v w : ℕ) → Contains winners v → Contains winners w → id_cmp b.arena v w ≡ order → id_cmp b.arena w v ≡ order → v ≡ w
-  one_order v w in_v in_w up down =
-      let e : order ≡ ordering_reverse order = sym up ∙ (id_cmp_total b.arena).antisymm v w ∙ ap ordering_reverse down in
-      class.lawful.once v w (live v in_v) (live w in_w) (same_list b.arena v w (up ∙ own_reverse order e))
+  -- of two winners one at most is below the other
+  never_both : (v w : ℕ) → id_cmp b.arena v w ≡ Less → id_cmp b.arena w v ≡ Less → ⊥
+  never_both v w up down = let e : Less ≡ Greater = sym up ∙ (id_cmp_total b.arena).antisymm v w ∙ ap ordering_reverse down in cc
 
   -- two winners do not list one join
-  listed_once : (v w : ℕ) (j : Join) → Contains winners v → Contains winners w → Lists b winners order v j → Lists b winners order w j → v ≡ w
+  listed_once : (v w : ℕ) (j : Join) → Contains winners v → Contains winners w → Lists b winners v j → Lists b winners w j → v ≡ w
   listed_once v w j in_v in_w h k = elim h [
     | inl left ↦ elim k [
       | inl other ↦ sym left.0 ∙ other.0
-      | inr other ↦ one_order v w in_v in_w (subst (Yields b.arena winners order w) left.0 other.3 in_v) (subst (Yields b.arena winners order v) other.0 left.3 in_w)
+      | inr other ↦ absurd (never_both v w (subst (Yields b.arena winners w) left.0 other.3 in_v) (subst (Yields b.arena winners v) other.0 left.3 in_w))
     ]
     | inr right ↦ elim k [
-      | inl other ↦ one_order v w in_v in_w (subst (Yields b.arena winners order w) right.0 other.3 in_v) (subst (Yields b.arena winners order v) other.0 right.3 in_w)
+      | inl other ↦ absurd (never_both v w (subst (Yields b.arena winners w) right.0 other.3 in_v) (subst (Yields b.arena winners v) other.0 right.3 in_w))
       | inr other ↦ sym right.0 ∙ other.0
     ]
   ]
 
-  pub all_more : IsOnceEach winners → (i w : ℕ) → i < length winners → w ≡ get_or winners i w → (old mid new : List Join) → AreAdded (ListedBy i) old mid → AreAdded (Lists b winners order w) mid new → AreAdded (ListedBy (i + 1)) old new
-  all_more once i w inside at old mid new before more = added_as (λ j. ListedBy i j ⊎ Lists b winners order w j) (ListedBy (i + 1)) old new (λ j. (
+  pub all_more : IsOnceEach winners → (i w : ℕ) → i < length winners → w ≡ get_or winners i w → (old mid new : List Join) → AreAdded (ListedBy i) old mid → AreAdded (Lists b winners w) mid new → AreAdded (ListedBy (i + 1)) old new
+  all_more once i w inside at old mid new before more = added_as (λ j. ListedBy i j ⊎ Lists b winners w j) (ListedBy (i + 1)) old new (λ j. (
     λ h. elim h [ inl earlier ↦ (earlier.0, take_old winners i w inside at earlier.0 earlier.1, earlier.2) | inr here ↦ (w, take_new winners i w inside at, here) ],
-    λ h. elim (take_cases winners i w inside at h.0 h.1) [ inl earlier ↦ inl (h.0, earlier, h.2) | inr same ↦ inr (subst (λ v. Lists b winners order v j) same h.2) ],
-  )) (added_both (ListedBy i) (Lists b winners order w) old mid new before more (λ j h here.
+    λ h. elim (take_cases winners i w inside at h.0 h.1) [ inl earlier ↦ inl (h.0, earlier, h.2) | inr same ↦ inr (subst (λ v. Lists b winners v j) same h.2) ],
+  )) (added_both (ListedBy i) (Lists b winners w) old mid new before more (λ j h here.
       let in_v : Contains winners h.0 = subst (λ l. Contains l h.0) (take_all (length winners) winners (omega arith)) (taken winners i h.0 h.1) in
       once_before winners i w once inside at (subst (Contains (take i winners)) (listed_once h.0 w j in_v (i, inside, sym at) h.2 here) h.1)))
     where
@@ -288,13 +293,13 @@ module _ (b : Book) (winners : List ℕ) (order : Ordering) (class : CanBeWinner
       taken (x ∷ xs) (suc k) q c = elim (in_cons q x (take k xs) c) [ inl same ↦ head_in q x (take (length xs) xs) same | inr more ↦ tail_in q x (take (length xs) xs) (taken xs k q more) ]
 
   -- the list of the winner's task is put behind those of the winners before it
-  pub task_more : IsOnceEach winners → (i : ℕ) → i < length winners → (old mid list new : List Join) → AreAdded (ListedBy i) old mid → ListsAt (record { book = b; winners = winners; order = order }) i list → new ≡ mid ++ list → AreAdded (ListedBy (i + 1)) old new
+  pub task_more : IsOnceEach winners → (i : ℕ) → i < length winners → (old mid list new : List Join) → AreAdded (ListedBy i) old mid → ListsAt (record { book = b; winners = winners }) i list → new ≡ mid ++ list → AreAdded (ListedBy (i + 1)) old new
   task_more once i inside old mid list new before given is =
       let w : ℕ = slice_index winners i in
-      all_more once i w inside (sym (get_or_default winners i w 0 inside)) old mid new before (added_behind (Lists b winners order w) mid list new given is)
+      all_more once i w inside (sym (get_or_default winners i w 0 inside)) old mid new before (added_behind (Lists b winners w) mid list new given is)
 
-  pub all_end : (i : ℕ) (old new : List Join) → length winners ≤ i → AreAdded (ListedBy i) old new → AreAdded (ListedByAny b winners order) old new
-  all_end i old new all added = added_as (ListedBy i) (ListedByAny b winners order) old new (λ j. (
+  pub all_end : (i : ℕ) (old new : List Join) → length winners ≤ i → AreAdded (ListedBy i) old new → AreAdded (ListedByAny b winners) old new
+  all_end i old new all added = added_as (ListedBy i) (ListedByAny b winners) old new (λ j. (
     λ h. (h.0, subst (λ l. Contains l h.0) (take_all i winners all) h.1, h.2),
     λ h. (h.0, subst (λ l. Contains l h.0) (sym (take_all i winners all)) h.1, h.2),
   )) added
@@ -317,7 +322,7 @@ module _ (b : Book) (winners : List ℕ) (class : CanBeWinners b winners) (marke
       go Equal e = absurd (apart (lawful.once l r (lawful.marked_live l in_l) (lawful.marked_live r in_r) (same_list b.arena l r e)))
       go Greater e = inr (turned (id_cmp b.arena r l) (sym ((id_cmp_total b.arena).antisymm l r) ∙ e))
 
-  pub all_owed : (old joins : List Join) → old ≡ [] → AreAdded (ListedByAny b winners Less) old joins → AreOwed b winners joins
+  pub all_owed : (old joins : List Join) → old ≡ [] → AreAdded (ListedByAny b winners) old joins → AreOwed b winners joins
   all_owed old joins none added = record {
     once = subst IsOnceEach (sym is) added.once;
     are = λ j. (
@@ -329,7 +334,7 @@ module _ (b : Book) (winners : List ℕ) (class : CanBeWinners b winners) (marke
       is : joins ≡ added.more
       is = added.is ∙ ap (λ l. l ++ added.more) none
 
-      is_owed : (j : Join) (w : ℕ) → Contains winners w → Lists b winners Less w j → IsOwed b winners j
+      is_owed : (j : Join) (w : ℕ) → Contains winners w → Lists b winners w j → IsOwed b winners j
       is_owed j w c h = elim h [
         | inl front ↦ record {
           left = front.1;
@@ -345,13 +350,13 @@ module _ (b : Book) (winners : List ℕ) (class : CanBeWinners b winners) (marke
         }
       ]
 
-      by_left : (j : Join) → IsOwed b winners j → Contains winners j.left → Yields b.arena winners Less j.left j.right → (w : ℕ) × Contains winners w × Lists b winners Less w j
+      by_left : (j : Join) → IsOwed b winners j → Contains winners j.left → Yields b.arena winners j.left j.right → (w : ℕ) × Contains winners w × Lists b winners w j
       by_left j o c yields = (j.left, c, inr (refl, o.right, sym o.meets, yields))
 
-      by_right : (j : Join) → IsOwed b winners j → Contains winners j.right → Yields b.arena winners Less j.right j.left → (w : ℕ) × Contains winners w × Lists b winners Less w j
+      by_right : (j : Join) → IsOwed b winners j → Contains winners j.right → Yields b.arena winners j.right j.left → (w : ℕ) × Contains winners w × Lists b winners w j
       by_right j o c yields = (j.right, c, inl (refl, o.left, o.meets, yields))
 
-      is_listed : (j : Join) → IsOwed b winners j → (w : ℕ) × Contains winners w × Lists b winners Less w j
+      is_listed : (j : Join) → IsOwed b winners j → (w : ℕ) × Contains winners w × Lists b winners w j
       is_listed j o = elim (there_or_not winners j.left) [
         | inl left ↦ elim (there_or_not winners j.right) [
           | inl right ↦ elim (ordered class.lawful j.left j.right o.left o.right (λ same. not_its_partner b.arena j.left class.lawful.arena (class.edge j.left left) (o.meets ∙ ap (left_of b.arena) (sym same)))) [

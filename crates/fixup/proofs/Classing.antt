@@ -8,13 +8,13 @@ use Rattle.apsp_model.specs.Order.{path_cmp, IsBelow}
 use Rattle.apsp_model.proofs.Walks.{first_is, last_is}
 use Rattle.path_arena.specs.Arena.{path_of, list_of, IsLive, id_cmp}
 use Rattle.path_book.specs.Book.{Book}
-use Rattle.weight_classes.specs.Classes.{Classes, Rank, IsLower, Fits, IsHeld, IsPopped, first_of, last_of}
+use Rattle.weight_classes.specs.Classes.{Classes, Rank, IsLower, ClassesFit, IsHeldWithRank, IsPopped, first_of, last_of}
 use Rattle.weight_classes.proofs.Held.{popped_cases, class_held, still_held}
 use Rattle.std.proofs.lemmas.List.Elements.{Contains-get_or}
 use Rattle.fixup_math.specs.Ranks.{ByWeightThenHops}
 use Rattle.fixup_math.proofs.Ranks.{weight_then_hops_is_rank}
 use Rattle.fixup_math.specs.Settling.{IsClass}
-use Rattle.fixup_math.proofs.Classes.{IsPoppedByWeightThenHops, IsWinners as IsWinnersOf, class_by_weight_then_hops}
+use Rattle.fixup_math.proofs.Classes.{IsPoppedByWeightThenHops, AreLeastTaken as IsWinnersOf, class_by_weight_then_hops}
 use Rattle.fixup_math.proofs.Winners.{class_starts}
 use Rattle.fixup.proofs.Growth.{id_weight}
 use Rattle.fixup.proofs.Heads.{ends_inside}
@@ -34,18 +34,18 @@ some_nonempty : (g : Graph) (p : List ℕ) → IsWalk g p → 0 < length p
 some_nonempty g [] h = absurd h
 some_nonempty g (x ∷ p) h = omega arith
 
-module _ (g : Graph) (birth : ℕ) (b0 b : Book) (c : Classes) (s : InvariantHolds g birth b0 b c) (later : Classes) (rank : Rank) (winners : List ℕ) (popped : IsPopped c later b.arena rank winners) (fits : Fits later b.arena) where
+module _ (g : Graph) (birth : ℕ) (b0 b : Book) (c : Classes) (s : InvariantHolds g birth b0 b c) (later : Classes) (rank : Rank) (winners : List ℕ) (popped : IsPopped c later b.arena rank winners) (fits : ClassesFit later b.arena) where
   walk_of : (id : ℕ) → IsLive b.arena id → IsWalk g (list_of b.arena id)
   walk_of id live = ((s.settling.kept (list_of b.arena id)).0 (id, live, refl)).walk
 
-  live_of : (r : Rank) (id : ℕ) → IsHeld c r id → IsLive b.arena id
+  live_of : (r : Rank) (id : ℕ) → IsHeldWithRank c r id → IsLive b.arena id
   live_of r id h = s.fits.live r id h
 
   -- a held id has its weight in the graph, and the number of edges of its path
-  weighs : (r : Rank) (id : ℕ) → IsHeld c r id → r.weight ≡ weight_of g (list_of b.arena id)
+  weighs : (r : Rank) (id : ℕ) → IsHeldWithRank c r id → r.weight ≡ weight_of g (list_of b.arena id)
   weighs r id h = sym (ap (λ (k : Rank). k.weight) (s.fits.ranks r id h)) ∙ id_weight g birth b0 b s.grown id (s.fits.live r id h)
 
-  hops : (r : Rank) (id : ℕ) → IsHeld c r id → r.hops ≡ hops_of (list_of b.arena id)
+  hops : (r : Rank) (id : ℕ) → IsHeldWithRank c r id → r.hops ≡ hops_of (list_of b.arena id)
   hops r id h = sym (ap (λ (k : Rank). k.hops) (s.fits.ranks r id h))
 
   first_there : (id x : ℕ) → IsLive b.arena id → first_of b.arena id ≡ x → first (list_of b.arena id) ≡ Some x
@@ -67,13 +67,13 @@ module _ (g : Graph) (birth : ℕ) (b0 b : Book) (c : Classes) (s : InvariantHol
     | inr more ↦ absurd (higher rank h.0 (popped.above h.0 h.1 more) (weighs h.0 h.1 h.2 ∙ ap (weight_of g) h.3 ∙ e) (hops h.0 h.1 h.2 ∙ ap hops_of h.3 ∙ f))
   ]
 
-  winner_held : (w : ℕ) → Contains winners w → IsHeld c rank w
+  winner_held : (w : ℕ) → Contains winners w → IsHeldWithRank c rank w
   winner_held w h = class_held c later b.arena rank winners popped w (popped.are_winners.taken w h)
 
   winners_are : IsWinnersOf g (λ q. HeldIn b c q × (weight_of g q ≡ rank.weight) × (hops_of q ≡ rank.hops)) (ListedIn b winners) (WonIn c)
   winners_are = record {
     taken = λ w h.
-        let held : IsHeld c rank h.0 = winner_held h.0 h.1 in
+        let held : IsHeldWithRank c rank h.0 = winner_held h.0 h.1 in
         ((rank, h.0, held, h.2), ap (weight_of g) (sym h.2) ∙ sym (weighs rank h.0 held), ap hops_of (sym h.2) ∙ sym (hops rank h.0 held));
     fresh = λ x y w h walk won. popped.are_winners.fresh h.0 h.1 ((λ i. slice_index_or c.won (from_of h.0 w x h.2 walk.from i * c.vertices + to_of h.0 w y h.2 walk.to i) false) ∙ won.2);
     least = λ x y w q h walk t walk_q below.
@@ -103,12 +103,12 @@ module _ (g : Graph) (birth : ℕ) (b0 b : Book) (c : Classes) (s : InvariantHol
   pub class_one : ℕ
   class_one = get_or popped.class 0 0
 
-  pub class_one_in : IsHeld c rank class_one
+  pub class_one_in : IsHeldWithRank c rank class_one
   unfolding class_one
   class_one_in = class_held c later b.arena rank winners popped (get_or popped.class 0 0) (Contains-get_or popped.class 0 0 popped.some)
 
   -- what was held does not rank below the class
-  rank_least : (r : Rank) (id : ℕ) → IsHeld c r id → (rank ≡ r) ⊎ IsLower rank r
+  rank_least : (r : Rank) (id : ℕ) → IsHeldWithRank c r id → (rank ≡ r) ⊎ IsLower rank r
   rank_least r id h = elim (popped_cases c later b.arena rank winners popped r id h) [ inl here ↦ inl here.0 | inr more ↦ inr (popped.above r id more) ]
 
   pop : IsPoppedByWeightThenHops g (HeldIn b c) (HeldIn b later) (ListedIn b winners) (WonIn c) rank.weight rank.hops
@@ -124,7 +124,7 @@ module _ (g : Graph) (birth : ℕ) (b0 b : Book) (c : Classes) (s : InvariantHol
     ];
     rest = λ q. (
       λ h.
-          let was : IsHeld c h.0 h.1 = still_held c later b.arena rank winners popped h.0 h.1 h.2 in
+          let was : IsHeldWithRank c h.0 h.1 = still_held c later b.arena rank winners popped h.0 h.1 h.2 in
           ((h.0, h.1, was, h.3), λ e f. higher rank h.0 (popped.above h.0 h.1 h.2) (weighs h.0 h.1 was ∙ ap (weight_of g) h.3 ∙ e) (hops h.0 h.1 was ∙ ap hops_of h.3 ∙ f)),
       λ h.
           let d : HeldIn b c q = h.0 in
@@ -183,7 +183,7 @@ module _ (g : Graph) (birth : ℕ) (b0 b : Book) (c : Classes) (s : InvariantHol
     in_order = popped.are_winners.in_order;
     held_long = λ p h. s.held_long p ((pop.rest p).0 h).0;
     above = λ p h upto.
-        let was : IsHeld c h.0 h.1 = still_held c later b.arena rank winners popped h.0 h.1 h.2 in
+        let was : IsHeldWithRank c h.0 h.1 = still_held c later b.arena rank winners popped h.0 h.1 h.2 in
         not_upto rank h.0 (weight_of g p) (hops_of p) (weight_of g pop.some.0) (hops_of pop.some.0) (popped.above h.0 h.1 h.2) (weighs h.0 h.1 was ∙ ap (weight_of g) h.3) (hops h.0 h.1 was ∙ ap hops_of h.3) pop.some.2 pop.some.3 upto;
     inside = class_starts g (ByWeightThenHops g) (weight_then_hops_is_rank g) (Marked b0) (Marked b) (Kept b) (HeldIn b c) (WonIn c) s.settling (HeldIn b later) (ListedIn b winners) class_path class (WonIn later) won_then;
   }

@@ -11,7 +11,7 @@ use Rattle.apsp_model.specs.Settled.{IsSettled}
 use Rattle.path_arena.specs.Arena.{IsLive, list_of}
 use Rattle.path_arena.proofs.Paths.{live_path, live_from, path_of_at}
 use Rattle.path_book.specs.Book.{Book, IsBook, kept_paths, PathsCount, HistoricalCount}
-use Rattle.weight_classes.specs.Classes.{Classes, Rank, IsHeld}
+use Rattle.weight_classes.specs.Classes.{Classes, Rank, IsHeldWithRank}
 use Rattle.apsp_model.proofs.Counting.{count_without, count_unique, count_same, count_either, count_decides}
 use Rattle.fixup_math.specs.Ranks.{ByWeightThenHops}
 use Rattle.fixup_math.proofs.Ranks.{weight_then_hops_is_rank}
@@ -95,7 +95,7 @@ module _ (g : Graph) (birth : ℕ) (b0 b : Book) (c : Classes) (lawful0 : IsBook
   historical_rise m n before after = counts_rise (λ p. IsHistoricalIn (kept_paths b0) p × IsWithEdge p) (λ p. IsHistoricalIn (kept_paths b) p × IsWithEdge p) m n before after (λ p h. (historical_grows p h.0, h.1))
 
   -- where nothing is held any more
-  pub all_settled : ((r : Rank) (id : ℕ) → IsHeld c r id → ⊥) → (m n h k : ℕ) → PathsCount b0 m → PathsCount b n → HistoricalCount b0 h → HistoricalCount b k → IsSettled g birth (kept_paths b0) (kept_paths b) (n - m) (k - h)
+  pub all_settled : ((r : Rank) (id : ℕ) → IsHeldWithRank c r id → ⊥) → (m n h k : ℕ) → PathsCount b0 m → PathsCount b n → HistoricalCount b0 h → HistoricalCount b k → IsSettled g birth (kept_paths b0) (kept_paths b) (n - m) (k - h)
   all_settled empty m n h k paths0 paths1 marks0 marks1 = record {
     historical = λ p.
         let e = settled g (ByWeightThenHops g) (weight_then_hops_is_rank g) (Marked b0) (Marked b) (Kept b) (HeldIn b c) (WonIn c) s.settling (λ q held. empty held.0 held.1 held.2) p in (

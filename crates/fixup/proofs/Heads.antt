@@ -13,19 +13,19 @@ use Rattle.apsp_model.proofs.Simples.{inside_walk}
 use Rattle.apsp_model.proofs.Members.{head_in, tail_in, in_nil}
 use Rattle.path_arena.specs.Arena.{Arena, IsLive, list_of}
 use Rattle.path_book.specs.Book.{Book, IsMarked, IsPendingLeast, HasNoPendingLeast, ArePendingLeasts}
-use Rattle.weight_classes.specs.Classes.{Classes, Rank, Fits, IsHeld, IsWon, IsPushed, rank_of}
+use Rattle.weight_classes.specs.Classes.{Classes, Rank, ClassesFit, IsHeldWithRank, IsWon, IsPushed, rank_of}
 use Rattle.weight_classes.proofs.Held.{pushed_held}
-use Rattle.fixup_math.specs.Settling.{IsQueued, IsLeastKept as IsLeastKeptOf, IsSettling}
+use Rattle.fixup_math.specs.Settling.{HeldCoverKept, IsLeastKept as IsLeastKeptOf, SettlingInvariant}
 use Rattle.fixup_math.proofs.Firsts.{queued_at_start}
 use Rattle.fixup_math.proofs.Settling.{settling_starts}
-use Rattle.fixup_math.proofs.Start.{IsCleaned, IsEdgeAt, walk_back, vertex_of_one}
+use Rattle.fixup_math.proofs.Start.{CleanedInvariant, IsEdgeAt, walk_back, vertex_of_one}
 use Rattle.fixup.proofs.Adding.{once_before, take_cases, take_old, take_new}
 use Rattle.fixup.proofs.Promoting.{least_kept}
 use Rattle.fixup.proofs.Starting.{single_marked}
 use Rattle.fixup.specs.Views.{HeldIn, Kept, Marked, WonIn}
 use Rattle.fixup.specs.Growth.{HeadsAreHeld, InvariantHolds, IsGrown, ExactlyTheseAreHeld}
 
-pub queueing_starts : (a : Arena) (c : Classes) → Fits c a → ((u v : ℕ) → WonIn c u v → ⊥) → ((r : Rank) (id : ℕ) → IsHeld c r id → ⊥) → ExactlyTheseAreHeld a [] c
+pub queueing_starts : (a : Arena) (c : Classes) → ClassesFit c a → ((u v : ℕ) → WonIn c u v → ⊥) → ((r : Rank) (id : ℕ) → IsHeldWithRank c r id → ⊥) → ExactlyTheseAreHeld a [] c
 queueing_starts a c fits none_won empty = record {
   fits = fits;
   none_won = none_won;
@@ -33,7 +33,7 @@ queueing_starts a c fits none_won empty = record {
 }
 
 -- one id more
-pub held_step : (a : Arena) (heads : List ℕ) (i id : ℕ) (c later : Classes) → ExactlyTheseAreHeld a (take i heads) c → i < length heads → id ≡ get_or heads i id → IsPushed c later a id → Fits later a → ExactlyTheseAreHeld a (take (i + 1) heads) later
+pub held_step : (a : Arena) (heads : List ℕ) (i id : ℕ) (c later : Classes) → ExactlyTheseAreHeld a (take i heads) c → i < length heads → id ≡ get_or heads i id → IsPushed c later a id → ClassesFit later a → ExactlyTheseAreHeld a (take (i + 1) heads) later
 held_step a heads i id c later s inside at pushed fits = record {
   fits = fits;
   none_won = λ u v w. s.none_won u v (subst (λ n. u < n) pushed.vertices w.0, subst (λ n. v < n) pushed.vertices w.1, won_before u v w.2);
@@ -53,7 +53,7 @@ held_step a heads i id c later s inside at pushed fits = record {
     won_before u v w = (λ i. slice_index_or (sym pushed.won i) (u * (sym pushed.vertices i) + v) false) ∙ w
 
 -- it is not held yet
-pub head_fresh : (a : Arena) (heads : List ℕ) (i id : ℕ) (c : Classes) → IsOnceEach heads → ExactlyTheseAreHeld a (take i heads) c → i < length heads → id ≡ get_or heads i id → (r : Rank) → IsHeld c r id → ⊥
+pub head_fresh : (a : Arena) (heads : List ℕ) (i id : ℕ) (c : Classes) → IsOnceEach heads → ExactlyTheseAreHeld a (take i heads) c → i < length heads → id ≡ get_or heads i id → (r : Rank) → IsHeldWithRank c r id → ⊥
 head_fresh a heads i id c once s inside at r h = once_before heads i id once inside at ((s.held id).0 (r, h))
 
 pub held_ends : (a : Arena) (heads : List ℕ) (i : ℕ) (c : Classes) → length heads ≤ i → ExactlyTheseAreHeld a (take i heads) c → ExactlyTheseAreHeld a heads c
@@ -82,7 +82,7 @@ ends_inside g x y p w = (inside_walk g p w.walk x (first_in p x w.from), inside_
 same_end : (x y : ℕ) → Some x ≡ Some y → x ≡ y
 same_end x y e = cc
 
-pub settling_same : (g : Graph) (H0 H H1 K Q : List ℕ → Type 0) (Won : ℕ → ℕ → Type 0) → ((p : List ℕ) → H1 p ↔ H p) → IsSettling g H0 H K Q Won → IsSettling g H0 H1 K Q Won
+pub settling_same : (g : Graph) (H0 H H1 K Q : List ℕ → Type 0) (Won : ℕ → ℕ → Type 0) → ((p : List ℕ) → H1 p ↔ H p) → SettlingInvariant g H0 H K Q Won → SettlingInvariant g H0 H1 K Q Won
 settling_same g H0 H H1 K Q Won marks s = record {
   closed = λ p q h part. (marks q).1 (s.closed p q ((marks p).0 h) part);
   singles = λ p h. (marks p).1 (s.singles p h);
@@ -109,7 +109,7 @@ settling_same g H0 H H1 K Q Won marks s = record {
     back p l = record { simple = l.simple; walk = l.walk; parts = λ q part. (marks q).0 (l.parts q part) }
 
 -- once all heads are held
-pub at_start : (g : Graph) (v birth : ℕ) (b0 b : Book) (c : Classes) → IsGrown g birth b0 b → b.marked ≡ b0.marked → ((id : ℕ) → IsMarked b0 id → list_of b.arena id ≡ list_of b0.arena id) → IsCleaned g v (Marked b0) (Kept b0) → ((p : List ℕ) → Kept b p ↔ (Kept b0 p ⊎ IsEdgeAt g v p)) → HeadsAreHeld b c → InvariantHolds g birth b0 b c
+pub at_start : (g : Graph) (v birth : ℕ) (b0 b : Book) (c : Classes) → IsGrown g birth b0 b → b.marked ≡ b0.marked → ((id : ℕ) → IsMarked b0 id → list_of b.arena id ≡ list_of b0.arena id) → CleanedInvariant g v (Marked b0) (Kept b0) → ((p : List ℕ) → Kept b p ↔ (Kept b0 p ⊎ IsEdgeAt g v p)) → HeadsAreHeld b c → InvariantHolds g birth b0 b c
 at_start g v birth b0 b c grown marks lists cleaned formed s = record {
   grown = grown;
   fits = s.queueing.fits;
@@ -159,7 +159,7 @@ at_start g v birth b0 b c grown marks lists cleaned formed s = record {
           (list_of b.arena id.0, least_kept g birth b0 b grown walks x y id.0 id.1.0, inl (held.0, id.0, held.1, refl))
     ]
 
-    queued : IsQueued g (Marked b0) (Kept b) (HeldIn b c) (WonIn c)
+    queued : HeldCoverKept g (Marked b0) (Kept b) (HeldIn b c) (WonIn c)
     queued = queued_at_start g (Marked b0) (Kept b) (HeldIn b c) (WonIn c) (λ p h. (formed p).1 (inl (cleaned.marked_kept p h)))
         (λ x y p k walk long.
         let e : (x < g.vertices) × (y < g.vertices) = ends_inside g x y p walk in

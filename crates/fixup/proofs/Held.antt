@@ -3,13 +3,13 @@ use Rattle.std.specs.Prelude.{◌≡◌, ℕ, ◌⊎◌, ◌↔◌, List, Option
 use Rattle.std.proofs.Common.{sym, ◌∙◌, ap, inl, inr}
 use Rattle.path_arena.specs.Arena.{Arena, Path, path_at, list_of, IsLive, no_path}
 use Rattle.path_book.specs.Book.{Book}
-use Rattle.weight_classes.specs.Classes.{Classes, Rank, Fits, IsPushed, rank_of}
+use Rattle.weight_classes.specs.Classes.{Classes, Rank, ClassesFit, IsPushed, rank_of}
 use Rattle.weight_classes.proofs.Held.{pushed_held}
 use Rattle.apsp_model.specs.Walk.{hops_of}
 use Rattle.fixup.specs.Views.{HeldIn}
 
 -- they fit every arena that gives the same of them
-pub fits_there : (c : Classes) (a d : Arena) → d.vertices ≡ a.vertices → ((id : ℕ) → IsLive a id → path_at d id ≡ path_at a id) → Fits c a → Fits c d
+pub fits_there : (c : Classes) (a d : Arena) → d.vertices ≡ a.vertices → ((id : ℕ) → IsLive a id → path_at d id ≡ path_at a id) → ClassesFit c a → ClassesFit c d
 fits_there c a d vertices still fits = record {
   vertices = vertices ∙ fits.vertices;
   live = λ r id h. ap is_some (still id (fits.live r id h)) ∙ fits.live r id h;

@@ -7,8 +7,8 @@ use Rattle.path_arena.specs.Arena.{Arena, path_at, list_of, IsLive, IsArena, no_
 use Rattle.path_arena.proofs.Paths.{live_path, path_of_at, live_apart}
 use Rattle.path_book.specs.Book.{Book, with_kept, TellsLeastKept}
 use Rattle.pair_heaps.specs.Heaps.{HasEnds}
-use Rattle.weight_classes.specs.Classes.{Classes, Rank, Fits, IsHeld, IsPushed}
-use Rattle.fixup.specs.Joining.{IsFormed, IsJoined, IsQueuedIfLeast}
+use Rattle.weight_classes.specs.Classes.{Classes, Rank, ClassesFit, IsHeldWithRank, IsPushed}
+use Rattle.fixup.specs.Joining.{IsJoinFormed, IsJoined, IsQueuedIfLeast}
 use Rattle.fixup.proofs.Views.{path_new, path_still}
 use Rattle.fixup.proofs.Held.{fits_there}
 
@@ -27,10 +27,10 @@ module _ (b : Book) (l r birth id : ℕ) (after : Book) (fresh : path_at b.arena
   pub vertices_now : after.arena.vertices ≡ b.arena.vertices
   vertices_now = ap (λ (a : Book). a.arena.vertices) kept
 
-  pub fits_now : (c : Classes) → Fits c b.arena → Fits c after.arena
-  fits_now c fits = subst (λ (a : Book). Fits c a.arena) (sym kept) (fits_there c b.arena (with_kept b id (joined_path b.arena l r birth)).arena refl (path_still b id (joined_path b.arena l r birth) fresh) fits)
+  pub fits_now : (c : Classes) → ClassesFit c b.arena → ClassesFit c after.arena
+  fits_now c fits = subst (λ (a : Book). ClassesFit c a.arena) (sym kept) (fits_there c b.arena (with_kept b id (joined_path b.arena l r birth)).arena refl (path_still b id (joined_path b.arena l r birth) fresh) fits)
 
-  pub not_held : (c : Classes) → Fits c b.arena → (r : Rank) → IsHeld c r id → ⊥
+  pub not_held : (c : Classes) → ClassesFit c b.arena → (r : Rank) → IsHeldWithRank c r id → ⊥
   not_held c fits w h = live_apart b.arena id id fresh (fits.live w id h) refl
 
   module _ (x y : ℕ) (begins : first (list_of b.arena l) ≡ Some x) (ends : last (list_of b.arena r) ≡ Some y) where
@@ -46,7 +46,7 @@ module _ (b : Book) (l r birth id : ℕ) (after : Book) (fresh : path_at b.arena
     live_now : IsLive after.arena id
     live_now = subst (λ (a : Book). IsLive a.arena id) (sym kept) (ap is_some (path_new b id (joined_path b.arena l r birth) fresh))
 
-    formed : (c later : Classes) → IsQueuedIfLeast after x y id c later → IsFormed b c l r birth after later
+    formed : (c later : Classes) → IsQueuedIfLeast after x y id c later → IsJoinFormed b c l r birth after later
     formed c later queue = record { id = id; from = x; to = y; fresh = fresh; kept = kept; ends = ends_now; queued = queue }
 
     pub joined_held : (c later : Classes) → (first (list_of b.arena l) ≢ last (list_of b.arena r)) → (told : Bool) → TellsLeastKept after x y id told → told ≡ true → IsPushed c later after.arena id → IsJoined b c l r birth after later

@@ -14,7 +14,7 @@ use Rattle.path_arena.proofs.Paths.{live_path, path_of_at, parted, Parted, live_
 use Rattle.path_book.specs.Book.{Book, IsMarked, IsBook, IsNewList}
 use Rattle.path_book.proofs.Readers.{single_or_edge}
 use Rattle.pair_heaps.specs.Heaps.{HasEnds}
-use Rattle.weight_classes.specs.Classes.{Classes, Fits, InOrder}
+use Rattle.weight_classes.specs.Classes.{Classes, ClassesFit, InOrder}
 use Rattle.apsp_model.proofs.Members.{in_nil}
 use Rattle.fixup_math.specs.Joins.{IsJoin, Then}
 use Rattle.fixup_math.proofs.Forming.{contains_push}
@@ -22,7 +22,7 @@ use Rattle.fixup_math.specs.Ranks.{ByWeightThenHops}
 use Rattle.fixup_math.proofs.Ranks.{weight_then_hops_is_rank}
 use Rattle.fixup_math.proofs.Batches.{IsPair, pair_joins, join_has_pair, joins_are_new}
 use Rattle.fixup.specs.declared.listing.Join.{Join}
-use Rattle.fixup.specs.Joining.{IsFormed, IsJoined, IsQueuedIfLeast}
+use Rattle.fixup.specs.Joining.{IsJoinFormed, IsJoined, IsQueuedIfLeast}
 use Rattle.fixup.specs.Owing.{CanBeWinners, IsPromoted, IsOwed}
 use Rattle.fixup.proofs.Parts.{Parts, parts_of, meets_in, same_id, edge_from_left, edge_from_right, edge_from_long}
 use Rattle.fixup.proofs.Growth.{id_weight}
@@ -231,7 +231,7 @@ module _ (g : Graph) (birth : ℕ) (b0 : Book) (cl : List ℕ) (winners : List �
     owed_more k m = elim (Contains-push_cases pairs j k m) [ inl old ↦ s.owed k old | inr new ↦ subst (IsOwed promoted winners) new o ]
 
     -- one pair more
-    pub pair_step : (Contains pairs j → ⊥) → (after : Book) (later : Classes) → IsJoined b c j.left j.right birth after later → IsBook after → Fits later after.arena → PairsAreJoined (stage_of g b0 cl winners before held promoted) birth (pairs ++ j ∷ []) after later
+    pub pair_step : (Contains pairs j → ⊥) → (after : Book) (later : Classes) → IsJoined b c j.left j.right birth after later → IsBook after → ClassesFit later after.arena → PairsAreJoined (stage_of g b0 cl winners before held promoted) birth (pairs ++ j ∷ []) after later
     pair_step once after later outcome lawful fits = elim outcome [
       | inl same ↦ subst (λ (d : Classes). PairsAreJoined (stage_of g b0 cl winners before held promoted) birth (pairs ++ j ∷ []) after d) (sym same.2) (subst (λ (a : Book). PairsAreJoined (stage_of g b0 cl winners before held promoted) birth (pairs ++ j ∷ []) a c) (sym same.1) (record {
         done = s.done;
@@ -248,7 +248,7 @@ module _ (g : Graph) (birth : ℕ) (b0 : Book) (cl : List ℕ) (winners : List �
       | inr formed ↦ with_form formed.0 formed.1
     ]
       where
-        with_form : (first (list_of b.arena j.left) ≢ last (list_of b.arena j.right)) → IsFormed b c j.left j.right birth after later → PairsAreJoined (stage_of g b0 cl winners before held promoted) birth (pairs ++ j ∷ []) after later
+        with_form : (first (list_of b.arena j.left) ≢ last (list_of b.arena j.right)) → IsJoinFormed b c j.left j.right birth after later → PairsAreJoined (stage_of g b0 cl winners before held promoted) birth (pairs ++ j ∷ []) after later
         with_form apart f = record {
           done = s.done ++ (joined_path b.arena j.left j.right birth).list ∷ [];
           forming = subst (λ (a : Book). JoinsAreFormed (stage_of g b0 cl winners before held promoted) birth (s.done ++ (joined_path b.arena j.left j.right birth).list ∷ []) a later) (sym f.kept)
@@ -256,7 +256,7 @@ module _ (g : Graph) (birth : ℕ) (b0 : Book) (cl : List ℕ) (winners : List �
               (subst (λ (a : Book). HasEnds a.arena f.id f.from f.to) f.kept f.ends)
               (subst (λ (a : Book). IsQueuedIfLeast a f.from f.to f.id c later) f.kept f.queued)
               (subst IsBook f.kept lawful)
-              (subst (λ (a : Book). Fits later a.arena) f.kept fits));
+              (subst (λ (a : Book). ClassesFit later a.arena) f.kept fits));
           owed = owed_more;
           are = λ p. (
             λ m. elim ((contains_push s.done (joined_path b.arena j.left j.right birth).list p).0 m) [

@@ -11,14 +11,14 @@ use Rattle.apsp_model.specs.Local.{IsLocal}
 use Rattle.apsp_model.specs.Order.{IsUpto}
 use Rattle.apsp_model.proofs.Below.{upto_or_above}
 use Rattle.path_arena.specs.Arena.{Arena, Path, path_at, path_of, list_of, IsLive, no_path}
-use Rattle.path_book.specs.Book.{Book, IsMarked, IsBook, IsLeastKept, with_kept}
+use Rattle.path_book.specs.Book.{Book, IsMarked, IsBook, IsLeastKeptId, with_kept}
 use Rattle.pair_heaps.specs.Heaps.{HasEnds}
-use Rattle.weight_classes.specs.Classes.{Classes, Rank, Fits, IsHeld, IsPushed, IsWon}
+use Rattle.weight_classes.specs.Classes.{Classes, Rank, ClassesFit, IsHeldWithRank, IsPushed, IsWon}
 use Rattle.fixup_math.specs.Joins.{IsJoin, Then}
 use Rattle.apsp_model.proofs.Members.{in_nil}
 use Rattle.fixup_math.specs.Ranks.{IsRank, ByWeightThenHops}
 use Rattle.fixup_math.proofs.Ranks.{weight_then_hops_is_rank}
-use Rattle.fixup_math.specs.Settling.{IsLeastKept as IsLeastKeptOf, IsForming, IsSettling, IsInClass}
+use Rattle.fixup_math.specs.Settling.{IsLeastKept as IsLeastKeptOf, FormingInvariant, SettlingInvariant, ClassInvariant}
 use Rattle.fixup_math.proofs.Forming.{forming_starts, forms_pushed, forms_unpushed, contains_push}
 use Rattle.fixup_math.proofs.Settling.{apart_by_simple}
 use Rattle.fixup_math.proofs.Batches.{joins_are_above, joins_are_not_marked, queued_all, class_closes}
@@ -36,7 +36,7 @@ abbrev pub stage_of : Graph → Book → List ℕ → List ℕ → Book → Clas
 stage_of g b0 cl winners before held promoted = record { graph = g; opening = b0; class = cl; winners = winners; before = before; held = held; promoted = promoted }
 
 -- the least kept path of a book is the least one of the graph's order
-pub least_kept : (g : Graph) (birth : ℕ) (b0 b : Book) → IsGrown g birth b0 b → ((p : List ℕ) → Kept b p → IsWalk g p) → (x y id : ℕ) → IsLeastKept b x y id → IsLeastKeptOf g (Kept b) x y (list_of b.arena id)
+pub least_kept : (g : Graph) (birth : ℕ) (b0 b : Book) → IsGrown g birth b0 b → ((p : List ℕ) → Kept b p → IsWalk g p) → (x y id : ℕ) → IsLeastKeptId b x y id → IsLeastKeptOf g (Kept b) x y (list_of b.arena id)
 least_kept g birth b0 b s walks x y id l = record {
   kept = (id, l.live, refl);
   walk = record { walk = walks (list_of b.arena id) (id, l.live, refl); from = l.ends.0; to = l.ends.1 };
@@ -53,7 +53,7 @@ least_kept g birth b0 b s walks x y id l = record {
 
 -- ---- predicates that say the same
 
-forming_same : (g : Graph) (H K Rest : List ℕ → Type 0) (Won : ℕ → ℕ → Type 0) (done : List (List ℕ)) (K1 Q1 Q2 : List ℕ → Type 0) → ((p : List ℕ) → Q2 p ↔ Q1 p) → IsForming g H K Rest Won done K1 Q1 → IsForming g H K Rest Won done K1 Q2
+forming_same : (g : Graph) (H K Rest : List ℕ → Type 0) (Won : ℕ → ℕ → Type 0) (done : List (List ℕ)) (K1 Q1 Q2 : List ℕ → Type 0) → ((p : List ℕ) → Q2 p ↔ Q1 p) → FormingInvariant g H K Rest Won done K1 Q1 → FormingInvariant g H K Rest Won done K1 Q2
 forming_same g H K Rest Won done K1 Q1 Q2 same f = record {
   kept = f.kept;
   rest_held = λ p h. (same p).1 (f.rest_held p h);
@@ -68,7 +68,7 @@ forming_same g H K Rest Won done K1 Q1 Q2 same f = record {
   };
 }
 
-settling_as : (g : Graph) (H0 H H1 K Q : List ℕ → Type 0) (Won Won1 : ℕ → ℕ → Type 0) → ((p : List ℕ) → H1 p ↔ H p) → ((x y : ℕ) → Won1 x y ↔ Won x y) → IsSettling g H0 H K Q Won → IsSettling g H0 H1 K Q Won1
+settling_as : (g : Graph) (H0 H H1 K Q : List ℕ → Type 0) (Won Won1 : ℕ → ℕ → Type 0) → ((p : List ℕ) → H1 p ↔ H p) → ((x y : ℕ) → Won1 x y ↔ Won x y) → SettlingInvariant g H0 H K Q Won → SettlingInvariant g H0 H1 K Q Won1
 settling_as g H0 H H1 K Q Won Won1 marks wons s = record {
   closed = λ p q h part. (marks q).1 (s.closed p q ((marks p).0 h) part);
   singles = λ p h. (marks p).1 (s.singles p h);
@@ -126,19 +126,19 @@ module _ (g : Graph) (birth : ℕ) (b0 : Book) (cl : List ℕ) (winners : List �
     start = start;
     promotion = promotion;
     grown = grown_as g birth b0 before promoted start.grown promotion.lawful promotion.arena;
-    fits = subst (Fits held) (sym promotion.arena) start.fits;
+    fits = subst (ClassesFit held) (sym promotion.arena) start.fits;
     marks = refl;
     still = λ id live. ap (λ (a : Arena). path_at a id) promotion.arena;
     won = refl;
     vertices = refl;
     joins = λ p c. absurd (in_nil p c);
-    forming = subst (λ (a : Arena). IsForming g Promoted (Kept before) (HeldIn before held) (WonIn held) [] (λ p. (id : ℕ) × IsLive a id × (list_of a id ≡ p)) (λ p. (r : Rank) × (id : ℕ) × IsHeld held r id × (list_of a id ≡ p))) (sym promotion.arena)
+    forming = subst (λ (a : Arena). FormingInvariant g Promoted (Kept before) (HeldIn before held) (WonIn held) [] (λ p. (id : ℕ) × IsLive a id × (list_of a id ≡ p)) (λ p. (r : Rank) × (id : ℕ) × IsHeldWithRank held r id × (list_of a id ≡ p))) (sym promotion.arena)
         (forming_starts g Promoted (Kept before) (HeldIn before held) (WonIn held)
         (queued_all g (ByWeightThenHops g) rank (Marked b0) (Marked before) (Kept before) (HeldIn before held) Winner (WonIn held) cl start.inside Promoted (λ p. (λ h. h, λ h. h))));
   }
 
   module _ (done : List (List ℕ)) (b : Book) (c : Classes) (s : JoinsAreFormed (stage_of g b0 cl winners before held promoted) birth done b c) where
-    inside : IsInClass g (ByWeightThenHops g) (Marked b0) (Marked before) (Kept before) (HeldIn before held) Winner (WonIn held) cl
+    inside : ClassInvariant g (ByWeightThenHops g) (Marked b0) (Marked before) (Kept before) (HeldIn before held) Winner (WonIn held) cl
     inside = s.start.inside
 
     pub list_as : (id : ℕ) → IsLive before.arena id → list_of b.arena id ≡ list_of before.arena id
@@ -177,7 +177,7 @@ module _ (g : Graph) (birth : ℕ) (b0 : Book) (cl : List ℕ) (winners : List �
     -- one more of their joins is kept
     module _ (id : ℕ) (q : Path) (fresh : path_at b.arena id ≡ None) (weight : q.weight ≡ weight_of g q.list) (born : q.birth ≡ birth) (join : IsJoin g (Marked before) Winner q.list) (x y : ℕ) where
       -- it was not kept before
-      pub joined_form : (later : Classes) → HasEnds (with_kept b id q).arena id x y → IsQueuedIfLeast (with_kept b id q) x y id c later → IsBook (with_kept b id q) → Fits later (with_kept b id q).arena → JoinsAreFormed (stage_of g b0 cl winners before held promoted) birth (done ++ q.list ∷ []) (with_kept b id q) later
+      pub joined_form : (later : Classes) → HasEnds (with_kept b id q).arena id x y → IsQueuedIfLeast (with_kept b id q) x y id c later → IsBook (with_kept b id q) → ClassesFit later (with_kept b id q).arena → JoinsAreFormed (stage_of g b0 cl winners before held promoted) birth (done ++ q.list ∷ []) (with_kept b id q) later
       joined_form later ends queue lawful fits_later = record {
         start = s.start;
         promotion = s.promotion;
@@ -206,7 +206,7 @@ module _ (g : Graph) (birth : ℕ) (b0 : Book) (cl : List ℕ) (winners : List �
           walks_now : (p : List ℕ) → Kept (with_kept b id q) p → IsWalk g p
           walks_now p k = elim ((kept_with b id q fresh p).0 k) [ inl old ↦ walks p old | inr new ↦ subst (IsWalk g) (sym new) join.walk ]
 
-          with_push : IsLeastKept (with_kept b id q) x y id → IsPushed c later (with_kept b id q).arena id → IsForming g Promoted (Kept before) (HeldIn before held) (WonIn held) (done ++ q.list ∷ []) (Kept (with_kept b id q)) (HeldIn (with_kept b id q) later)
+          with_push : IsLeastKeptId (with_kept b id q) x y id → IsPushed c later (with_kept b id q).arena id → FormingInvariant g Promoted (Kept before) (HeldIn before held) (WonIn held) (done ++ q.list ∷ []) (Kept (with_kept b id q)) (HeldIn (with_kept b id q) later)
           with_push least pushed = forms_pushed g Promoted (Kept before) (HeldIn before held) (WonIn held) done (Kept b) (HeldIn b c) s.forming x y q.list walk_now (Kept (with_kept b id q)) (kept_with b id q fresh) (HeldIn (with_kept b id q) later)
               (λ p. let e : HeldIn (with_kept b id q) later p ↔ (HeldIn (with_kept b id q) c p ⊎ (p ≡ list_of (with_kept b id q).arena id)) = held_pushed (with_kept b id q) c later id pushed p in (
                 λ h. elim (e.0 h) [ inl old ↦ inl ((held_same p).0 old) | inr new ↦ inr (new ∙ list_now) ],
@@ -216,7 +216,7 @@ module _ (g : Graph) (birth : ℕ) (b0 : Book) (cl : List ℕ) (winners : List �
               (λ p h. (kept_with b id q fresh p).1 (inl (marked_kept_now p h)))
               (joins_are_not_marked g (ByWeightThenHops g) rank (Marked b0) (Marked before) (Kept before) (HeldIn before held) Winner (WonIn held) cl inside Promoted (λ p. (λ h. h, λ h. h)) q.list join)
 
-          without_push : (k : ℕ) → k ≢ id → IsLeastKept (with_kept b id q) x y k → later ≡ c → IsForming g Promoted (Kept before) (HeldIn before held) (WonIn held) (done ++ q.list ∷ []) (Kept (with_kept b id q)) (HeldIn (with_kept b id q) later)
+          without_push : (k : ℕ) → k ≢ id → IsLeastKeptId (with_kept b id q) x y k → later ≡ c → FormingInvariant g Promoted (Kept before) (HeldIn before held) (WonIn held) (done ++ q.list ∷ []) (Kept (with_kept b id q)) (HeldIn (with_kept b id q) later)
           without_push k apart least same =
               let l : IsLeastKeptOf g (Kept (with_kept b id q)) x y (list_of (with_kept b id q).arena k) = least_kept g birth b0 (with_kept b id q) grown_now walks_now x y k least in
               let live : IsLive b.arena k = ap is_some (sym (path_other b id q fresh k apart)) ∙ least.live in

@@ -9,8 +9,8 @@ use Rattle.apsp_model.specs.Least.{IsLeast}
 use Rattle.apsp_model.proofs.Exists.{least_or_none}
 use Rattle.path_arena.specs.Arena.{IsLive, list_of, path_of}
 use Rattle.pair_heaps.specs.Heaps.{HasEnds}
-use Rattle.path_book.specs.Book.{Book, IsMarked, IsLeastKept, HasNoPendingLeast}
-use Rattle.weight_classes.specs.Classes.{Classes, Rank, IsHeld}
+use Rattle.path_book.specs.Book.{Book, IsMarked, IsLeastKeptId, HasNoPendingLeast}
+use Rattle.weight_classes.specs.Classes.{Classes, Rank, IsHeldWithRank}
 use Rattle.fixup_math.specs.Ranks.{ByWeightThenHops}
 use Rattle.fixup_math.proofs.Ranks.{weight_then_hops_is_rank}
 use Rattle.fixup_math.proofs.Settling.{settled}
@@ -22,7 +22,7 @@ module _ (g : Graph) (birth : ℕ) (b0 b : Book) (c : Classes) (s : InvariantHol
   walk_of : (q : ℕ) → IsLive b.arena q → HasEnds b.arena q x y → IsWalkFrom g x y (list_of b.arena q)
   walk_of q live ends = record { walk = ((s.settling.kept (list_of b.arena q)).0 (q, live, refl)).walk; from = ends.0; to = ends.1 }
 
-  least_is_kept : (w : List ℕ) → IsLeast g x y w → (id : ℕ) → IsMarked b id → list_of b.arena id ≡ w → IsLeastKept b x y id
+  least_is_kept : (w : List ℕ) → IsLeast g x y w → (id : ℕ) → IsMarked b id → list_of b.arena id ≡ w → IsLeastKeptId b x y id
   least_is_kept w least id mark list = record {
     live = live_id;
     ends = (ap first list ∙ least.walk.from, ap last list ∙ least.walk.to);
@@ -37,7 +37,7 @@ module _ (g : Graph) (birth : ℕ) (b0 b : Book) (c : Classes) (s : InvariantHol
       live_id : IsLive b.arena id
       live_id = s.grown.lawful.marked_live id mark
 
-  pub none_pending : ((r : Rank) (id : ℕ) → IsHeld c r id → ⊥) → HasNoPendingLeast b x y
+  pub none_pending : ((r : Rank) (id : ℕ) → IsHeldWithRank c r id → ⊥) → HasNoPendingLeast b x y
   none_pending empty = elim (least_or_none g x y) [
     | inl w ↦
         let m : Marked b w.0 = (settled g (ByWeightThenHops g) (weight_then_hops_is_rank g) (Marked b0) (Marked b) (Kept b) (HeldIn b c) (WonIn c) s.settling (λ q held. empty held.0 held.1 held.2) w.0).1 (inr (x, y, w.1)) in

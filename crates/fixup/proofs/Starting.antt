@@ -14,7 +14,7 @@ use Rattle.path_arena.proofs.Paths.{live_from, path_of_at}
 use Rattle.path_book.specs.Book.{Book, IsBook, IsNewList, kept_paths, kept_path}
 use Rattle.path_book.proofs.Kept.{kept_live, historical_marked, to_kept}
 use Rattle.apsp_model.proofs.Members.{in_cons, in_nil}
-use Rattle.fixup_math.proofs.Start.{IsCleaned, IsEdgeAt, none_at, weight_back}
+use Rattle.fixup_math.proofs.Start.{CleanedInvariant, IsEdgeAt, none_at, weight_back}
 use Rattle.fixup.specs.Starts.{IsEdgeFormed}
 use Rattle.fixup.proofs.Views.{kept_with}
 use Rattle.fixup.proofs.Growth.{grown_none, grown_with}
@@ -48,7 +48,7 @@ module _ (g : Graph) (v birth : ℕ) (b0 : Book) (lawful : IsBook b0) (vertices 
     λ l. (kept_is b0 p).0 ((ready.kept p).1 (record { simple = l.simple; walk = l.walk; parts = λ q part. (historical_is b0 lawful q).1 (l.parts q part) })),
   )
 
-  pub cleaned : IsCleaned g v (Marked b0) (Kept b0)
+  pub cleaned : CleanedInvariant g v (Marked b0) (Kept b0)
   cleaned = record {
     closed = λ p q h part. (historical_is b0 lawful q).0 (ready.closed p q ((historical_is b0 lawful p).1 h) part);
     singles = λ p h. single_marked b0 lawful p (h.0, subst (λ n. h.0 < n) (sym vertices) h.1, h.2);

@@ -7,7 +7,7 @@ use Rattle.apsp_model.proofs.Members.{in_nil}
 use Rattle.path_arena.specs.Arena.{Arena, IsLive, list_of, HasAnEdge, CanJoin, joined_path}
 use Rattle.path_arena.proofs.Paths.{live_from_edge}
 use Rattle.path_book.specs.Book.{Book, IsBook, IsMarked, IsNewList, with_mark}
-use Rattle.weight_classes.specs.Classes.{Classes, Fits, InOrder}
+use Rattle.weight_classes.specs.Classes.{Classes, ClassesFit, InOrder}
 use Rattle.fixup.specs.declared.listing.Join.{Join}
 use Rattle.fixup.specs.Joining.{IsJoined}
 use Rattle.fixup.specs.Owing.{CanBeWinners, IsPromoted, IsOwed, AreOwed}
@@ -66,14 +66,14 @@ winners_then b0 b winners class p = record {
 -- ---- the pairs are joined
 
 -- what a call needs of the two sides
-pub record Sides (birth : ℕ) (b : Book) (c : Classes) (l r : ℕ) : Type 0 where
+pub record JoinHalves (birth : ℕ) (b : Book) (c : Classes) (l r : ℕ) : Type 0 where
   pub left_live : IsLive b.arena l
   pub right_live : IsLive b.arena r
   pub left : IsMarked b l
   pub right : IsMarked b r
   pub can : (first (list_of b.arena l) ≡ last (list_of b.arena r) → ⊥) → CanJoin b.arena l r
   pub new : (first (list_of b.arena l) ≡ last (list_of b.arena r) → ⊥) → IsNewList b (joined_path b.arena l r birth).list
-  pub fits : Fits c b.arena
+  pub fits : ClassesFit c b.arena
 
 module _ (birth : ℕ) (pairs : List Join) (b0 b : Book) (c0 c : Classes) (once : IsOnceEach pairs) (i : ℕ) (j : Join) (inside : i < length pairs) (at : j ≡ get_or pairs i j)
     (before : (s : Stage) → PairsAreJoined s birth [] b0 c0 → AreOwedAt s pairs → PairsAreJoined s birth (take i pairs) b c) where
@@ -83,7 +83,7 @@ module _ (birth : ℕ) (pairs : List Join) (b0 b : Book) (c0 c : Classes) (once 
   apart : Contains (take i pairs) j → ⊥
   apart = once_before pairs i j once inside at
 
-  pub pair_sides : SomeClassOwes birth pairs b0 c0 → Sides birth b c j.left j.right
+  pub pair_sides : SomeClassOwes birth pairs b0 c0 → JoinHalves birth b c j.left j.right
   pair_sides ready =
       let s : Stage = ready.0 in
       let o : IsOwed s.promoted s.winners j = ready.2 j there in
@@ -98,7 +98,7 @@ module _ (birth : ℕ) (pairs : List Join) (b0 b : Book) (c0 c : Classes) (once 
         fits = k.forming.fits;
       }
 
-  pub pair_more : (after : Book) (later : Classes) → IsJoined b c j.left j.right birth after later → IsBook after → Fits later after.arena → (s : Stage) → PairsAreJoined s birth [] b0 c0 → AreOwedAt s pairs → PairsAreJoined s birth (take (i + 1) pairs) after later
+  pub pair_more : (after : Book) (later : Classes) → IsJoined b c j.left j.right birth after later → IsBook after → ClassesFit later after.arena → (s : Stage) → PairsAreJoined s birth [] b0 c0 → AreOwedAt s pairs → PairsAreJoined s birth (take (i + 1) pairs) after later
   pair_more after later joined lawful fits s start owed =
       let k : PairsAreJoined s birth (take i pairs) b c = before s start owed in
       subst (λ ps. PairsAreJoined s birth ps after later) (sym (take_push pairs i j inside at))

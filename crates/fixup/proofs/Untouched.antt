@@ -12,11 +12,11 @@ use Rattle.apsp_model.specs.Paths.{KeptPath, IsKeptIn, IsHistoricalIn}
 use Rattle.apsp_model.specs.Settled.{without_star, HaveWeights, IsReady, IsSettled}
 use Rattle.apsp_model.proofs.Leasts.{least_closed}
 use Rattle.apsp_model.proofs.Stars.{same_graph, weight-star_of}
-use Rattle.fixup_math.proofs.Births.{IsBook as IsBookOf, book_of}
+use Rattle.fixup_math.proofs.Births.{StateBefore, book_of}
 use Rattle.fixup_math.proofs.Start.{weight-without}
 use Rattle.path_arena.specs.Arena.{vertex_of, IsLive, path_of, single}
 use Rattle.path_arena.proofs.Paths.{live_from, path_of_at}
-use Rattle.path_book.specs.Book.{Book, IsBook, IsOpening, kept_paths}
+use Rattle.path_book.specs.Book.{Book, IsBook, IsOpeningBook, kept_paths}
 use Rattle.path_book.proofs.Kept.{kept_at, kept_live, historical_marked}
 
 -- ready wherever a vertex has no edges
@@ -106,14 +106,14 @@ settled_ready g v birth before after formed promoted ready settled u none = reco
 
 -- ---- the opening book
 
-pub opening_ready : (b : Book) (n : ℕ) (g : Graph) → g ≡ no_edges n → IsBook b → IsOpening b n → IsReadyForMore g (kept_paths b)
+pub opening_ready : (b : Book) (n : ℕ) (g : Graph) → g ≡ no_edges n → IsBook b → IsOpeningBook b n → IsReadyForMore g (kept_paths b)
 opening_ready b n g is lawful opened v none = record {
   closed = λ p q h part. to_historical q (singles.closed p q (to_vertex p (to_kept p h)) part);
   kept = subst (λ (h : Graph). (p : List ℕ) → IsKeptIn (kept_paths b) p ↔ IsLocal h (IsHistoricalIn (kept_paths b)) p) (sym (none ∙ is)) kept_is;
   weights = λ k c. (let at = kept_at b k c in let u = single_of at.id at.live in ap (λ (q : KeptPath). q.weight) (sym at.is) ∙ ap (λ q. q.weight) u.2 ∙ ap (weight_of (without_star g v)) (sym (ap (λ q. q.list) u.2) ∙ at.list));
 }
   where
-    singles : IsBookOf (no_edges n) (opening n)
+    singles : StateBefore (no_edges n) (opening n)
     singles = book_of n false []
 
     inside : (u : ℕ) → u < n → u < b.arena.vertices

@@ -9,7 +9,7 @@ use Rattle.path_arena.specs.Arena.{Path, path_at, list_of, IsLive, no_path}
 use Rattle.path_arena.proofs.Keys.{tied_key, apart_key, get_put, get_put_other}
 use Rattle.path_arena.proofs.Paths.{live_apart}
 use Rattle.path_book.specs.Book.{Book, IsMarked, IsBook, with_kept, with_mark}
-use Rattle.weight_classes.specs.Classes.{Classes, Rank, IsHeld}
+use Rattle.weight_classes.specs.Classes.{Classes, Rank, IsHeldWithRank}
 use Rattle.fixup.specs.Views.{HeldIn, Kept, Marked}
 
 -- ---- a path that is kept anew
@@ -51,7 +51,7 @@ module _ (b : Book) (id : ℕ) (q : Path) (fresh : path_at b.arena id ≡ None) 
     λ h. let live : IsLive b.arena h.0 = lawful.marked_live h.0 h.1 in (h.0, h.1, list_still h.0 live ∙ h.2),
   )
 
-  pub held_with : (c : Classes) → ((r : Rank) (k : ℕ) → IsHeld c r k → IsLive b.arena k) → (p : List ℕ) → HeldIn (with_kept b id q) c p ↔ HeldIn b c p
+  pub held_with : (c : Classes) → ((r : Rank) (k : ℕ) → IsHeldWithRank c r k → IsLive b.arena k) → (p : List ℕ) → HeldIn (with_kept b id q) c p ↔ HeldIn b c p
   held_with c live p = (
     λ h. (h.0, h.1, h.2, sym (list_still h.1 (live h.0 h.1 h.2)) ∙ h.3),
     λ h. (h.0, h.1, h.2, list_still h.1 (live h.0 h.1 h.2) ∙ h.3),

@@ -12,7 +12,7 @@ use Rattle.apsp_model.proofs.Orders.{nat_cmp_same}
 use Rattle.path_arena.proofs.Paths.{live_path, path_of_at}
 use Rattle.path_arena.proofs.Puts.{weight_most, length_most}
 use Rattle.path_book.specs.Book.{Book, IsBook, IsMarked, kept_paths}
-use Rattle.weight_classes.specs.Classes.{Classes, Rank, IsLower, Fits, IsHeld, IsPopped, InOrder, first_of, last_of, rank_of}
+use Rattle.weight_classes.specs.Classes.{Classes, Rank, IsLower, ClassesFit, IsHeldWithRank, IsPopped, InOrder, first_of, last_of, rank_of}
 use Rattle.fixup.specs.Growth.{HeadsAreHeld, InvariantHolds, EdgesAreFormed}
 use Rattle.fixup.specs.Stage.{Start, Stage}
 use Rattle.fixup.specs.Stages.{InvariantHoldsOfSomeStart, ClassIsTakenAt, ClassIsSettledAt, SomeClassIsTaken}
@@ -33,7 +33,7 @@ each_once a (id ∷ ids) order = (λ more. same_is_not_less (first_of a id) (las
 
 -- ---- the next class
 
-module _ (g : Graph) (birth : ℕ) (b0 b : Book) (c : Classes) (s : InvariantHolds g birth b0 b c) (later : Classes) (rank : Rank) (winners : List ℕ) (popped : IsPopped c later b.arena rank winners) (fits : Fits later b.arena) where
+module _ (g : Graph) (birth : ℕ) (b0 b : Book) (c : Classes) (s : InvariantHolds g birth b0 b c) (later : Classes) (rank : Rank) (winners : List ℕ) (popped : IsPopped c later b.arena rank winners) (fits : ClassesFit later b.arena) where
   pub stage : Stage
   stage = record { graph = g; opening = b0; class = class_path g birth b0 b c s later rank winners popped fits; winners = winners; before = b; held = later; promoted = b }
 
@@ -54,7 +54,7 @@ module _ (g : Graph) (birth : ℕ) (b0 b : Book) (c : Classes) (s : InvariantHol
   falls : (x y z u : ℕ) → x ≡ y → z ≡ u → y < u → x < z
   falls x y z u e f l = omega (arith, e, f, l)
 
-  few : (d : Classes) (e : Book) → Fits d e.arena → IsArena e.arena → (r : Rank) (id : ℕ) → IsHeld d r id → (r.hops < MOST_VERTICES) × (r.weight ≤ MOST_VERTICES * MOST_WEIGHT)
+  few : (d : Classes) (e : Book) → ClassesFit d e.arena → IsArena e.arena → (r : Rank) (id : ℕ) → IsHeldWithRank d r id → (r.hops < MOST_VERTICES) × (r.weight ≤ MOST_VERTICES * MOST_WEIGHT)
   few d e f lawful r id h =
       let live : IsLive e.arena id = f.live r id h in
       let is : rank_of e.arena id ≡ r = f.ranks r id h in
@@ -64,7 +64,7 @@ module _ (g : Graph) (birth : ℕ) (b0 b : Book) (c : Classes) (s : InvariantHol
       few_hops : (l h m : ℕ) → l ≤ m → 1 ≤ m → h ≡ l - 1 → h < m
       few_hops l h m upto some e = omega (arith, upto, some, e)
 
-  above : (after : Book) (final : Classes) → ClassIsSettledAt stage birth after final → (r : Rank) (id : ℕ) → IsHeld final r id → number rank + 1 ≤ number r
+  above : (after : Book) (final : Classes) → ClassIsSettledAt stage birth after final → (r : Rank) (id : ℕ) → IsHeldWithRank final r id → number rank + 1 ≤ number r
   unfolding stage
   above after final done r id h =
       let is : rank_of after.arena id ≡ r = done.at.fits.ranks r id h in
@@ -79,7 +79,7 @@ module _ (g : Graph) (birth : ℕ) (b0 b : Book) (c : Classes) (s : InvariantHol
   pub lighter : (after : Book) (final : Classes) → ClassIsSettledAt stage birth after final → left_over final.held < left_over c.held
   lighter after final done =
       let id : ℕ = class_one g birth b0 b c s later rank winners popped fits in
-      let held : IsHeld c rank id = class_one_in g birth b0 b c s later rank winners popped fits in
+      let held : IsHeldWithRank c rank id = class_one_in g birth b0 b c s later rank winners popped fits in
       let f = few c b s.fits s.grown.lawful.arena rank id held in
       let most : number rank + 1 ≤ above_all = number_most rank f.1 f.0 in
       let now : lightest c.held ≤ number rank = lightest_upto c.held rank id held in
@@ -101,21 +101,21 @@ starts g v birth b0 b c graph lawful same ready formed_edges queued =
         let now = formed_edges.grown.old id q.0 q.1 in
         ap (λ r. r.list) (path_of_at b.arena id q.0 now ∙ sym (path_of_at b0.arena id q.0 q.1))
 
-pub none_held : (c : Classes) → c.held ≡ [] → (r : Rank) (id : ℕ) → IsHeld c r id → ⊥
+pub none_held : (c : Classes) → c.held ≡ [] → (r : Rank) (id : ℕ) → IsHeldWithRank c r id → ⊥
 none_held c e r id h = let l : h.0 < length c.held = h.1 in omega (arith, l, ap length e)
 
 pub popped_here : (c later : Classes) (a d : Arena) (rank : Rank) (winners : List ℕ) → d ≡ a → IsPopped c later d rank winners → IsPopped c later a rank winners
 popped_here c later a d rank winners e p = subst (λ x. IsPopped c later x rank winners) e p
 
-pub fits_here : (c : Classes) (a d : Arena) → d ≡ a → Fits c d → Fits c a
-fits_here c a d e f = subst (λ x. Fits c x) e f
+pub fits_here : (c : Classes) (a d : Arena) → d ≡ a → ClassesFit c d → ClassesFit c a
+fits_here c a d e f = subst (λ x. ClassesFit c x) e f
 
 module _ (birth : ℕ) (b0 b : Book) (c0 c : Classes) (before : (s : Start) → InvariantHolds s.graph birth s.opening b0 c0 → InvariantHolds s.graph birth s.opening b c) (started : InvariantHoldsOfSomeStart birth b0 c0)
-    (later : Classes) (lent : Arena) (same : lent ≡ b.arena) (rank : Rank) (winners : List ℕ) (popped : IsPopped c later lent rank winners) (fits : Fits later lent) (ids : List ℕ) (are : ids ≡ winners) where
+    (later : Classes) (lent : Arena) (same : lent ≡ b.arena) (rank : Rank) (winners : List ℕ) (popped : IsPopped c later lent rank winners) (fits : ClassesFit later lent) (ids : List ℕ) (are : ids ≡ winners) where
   taken_here : (g : Graph) (o : Book) (s : InvariantHolds g birth o b c) → ClassIsTakenAt (stage g birth o b c s later rank winners (popped_here c later b.arena lent rank winners same popped) (fits_here later b.arena lent same fits)) birth ids b later
   taken_here g o s =
       let p : IsPopped c later b.arena rank winners = popped_here c later b.arena lent rank winners same popped in
-      let f : Fits later b.arena = fits_here later b.arena lent same fits in
+      let f : ClassesFit later b.arena = fits_here later b.arena lent same fits in
       subst (λ todo. ClassIsTakenAt (stage g birth o b c s later rank winners p f) birth todo b later) (sym are) (stage_taken g birth o b c s later rank winners p f)
 
   pub class_ready : SomeClassIsTaken birth ids b later
@@ -130,7 +130,7 @@ module _ (birth : ℕ) (b0 b : Book) (c0 c : Classes) (before : (s : Start) → 
     class_over s h =
         let at : InvariantHolds s.graph birth s.opening b c = before s h in
         let p : IsPopped c later b.arena rank winners = popped_here c later b.arena lent rank winners same popped in
-        let f : Fits later b.arena = fits_here later b.arena lent same fits in
+        let f : ClassesFit later b.arena = fits_here later b.arena lent same fits in
         stage_done s.graph birth s.opening b c at later rank winners p f after final (done (stage s.graph birth s.opening b c at later rank winners p f) (taken_here s.graph s.opening at))
 
     pub class_falls : left_over final.held < left_over c.held
@@ -139,5 +139,5 @@ module _ (birth : ℕ) (b0 b : Book) (c0 c : Classes) (before : (s : Start) → 
         let o : Book = started.0.opening in
         let at : InvariantHolds g birth o b c = before started.0 started.1 in
         let p : IsPopped c later b.arena rank winners = popped_here c later b.arena lent rank winners same popped in
-        let f : Fits later b.arena = fits_here later b.arena lent same fits in
+        let f : ClassesFit later b.arena = fits_here later b.arena lent same fits in
         lighter g birth o b c at later rank winners p f after final (done (stage g birth o b c at later rank winners p f) (taken_here g o at))

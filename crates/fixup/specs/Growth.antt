@@ -4,8 +4,8 @@ use Rattle.apsp_model.specs.Graph.{Graph, HasEdge}
 use Rattle.apsp_model.specs.Walk.{weight_of, first, last}
 use Rattle.path_arena.specs.Arena.{Arena, Path, path_at, list_of, IsLive}
 use Rattle.path_book.specs.Book.{Book, IsBook, ArePendingLeasts}
-use Rattle.weight_classes.specs.Classes.{Classes, Rank, Fits, IsHeld, InOrder}
-use Rattle.fixup_math.specs.Settling.{IsForming, IsSettling, IsInClass}
+use Rattle.weight_classes.specs.Classes.{Classes, Rank, ClassesFit, IsHeldWithRank, InOrder}
+use Rattle.fixup_math.specs.Settling.{FormingInvariant, SettlingInvariant, ClassInvariant}
 use Rattle.fixup_math.specs.Joins.{IsJoin, Then}
 use Rattle.fixup_math.specs.Ranks.{ByWeightThenHops}
 use Rattle.fixup.specs.declared.listing.Join.{Join}
@@ -37,9 +37,9 @@ pub record EdgesAreFormed (g : Graph) (v birth : ℕ) (b0 : Book) (i j : ℕ) (b
 
 -- these ids are held by now, and nothing else is
 pub record ExactlyTheseAreHeld (a : Arena) (ids : List ℕ) (c : Classes) : Type 0 where
-  pub fits : Fits c a
+  pub fits : ClassesFit c a
   pub none_won : (u v : ℕ) → WonIn c u v → ⊥
-  pub held : (id : ℕ) → ((r : Rank) × IsHeld c r id) ↔ Contains ids id
+  pub held : (id : ℕ) → ((r : Rank) × IsHeldWithRank c r id) ↔ Contains ids id
 
 -- the least kept paths of the pairs that are not historical are held, and nothing else is
 pub record HeadsAreHeld (b : Book) (c : Classes) : Type 0 where
@@ -52,15 +52,15 @@ pub record HeadsAreHeld (b : Book) (c : Classes) : Type 0 where
 -- what holds of a settling before each class, where the book was b0 at its start
 pub record InvariantHolds (g : Graph) (birth : ℕ) (b0 b : Book) (c : Classes) : Type 0 where
   pub grown : IsGrown g birth b0 b
-  pub fits : Fits c b.arena
+  pub fits : ClassesFit c b.arena
   pub held_long : (p : List ℕ) → HeldIn b c p → 1 < length p
-  pub settling : IsSettling g (Marked b0) (Marked b) (Kept b) (HeldIn b c) (WonIn c)
+  pub settling : SettlingInvariant g (Marked b0) (Marked b) (Kept b) (HeldIn b c) (WonIn c)
 
 -- .. and where nothing is held any more
 pub record InvariantHoldsAtTheEnd (g : Graph) (birth : ℕ) (b0 b : Book) : Type 0 where
   pub classes : Classes
   pub at : InvariantHolds g birth b0 b classes
-  pub empty : (r : Rank) (id : ℕ) → IsHeld classes r id → ⊥
+  pub empty : (r : Rank) (id : ℕ) → IsHeldWithRank classes r id → ⊥
 
 -- the lists of these ids
 abbrev pub ListedIn : Book → List ℕ → List ℕ → Type 0
@@ -70,12 +70,12 @@ ListedIn b ids p = (w : ℕ) × Contains ids w × (list_of b.arena w ≡ p)
 pub record ClassIsTaken (g : Graph) (birth : ℕ) (b0 : Book) (cl : List ℕ) (winners : List ℕ) (b : Book)
     (c : Classes) : Type 0 where
   pub grown : IsGrown g birth b0 b
-  pub fits : Fits c b.arena
+  pub fits : ClassesFit c b.arena
   pub live : (w : ℕ) → Contains winners w → IsLive b.arena w
   pub in_order : InOrder b.arena winners
   pub held_long : (p : List ℕ) → HeldIn b c p → 1 < length p
   pub above : (p : List ℕ) → HeldIn b c p → ByWeightThenHops g p cl → ⊥
-  pub inside : IsInClass g (ByWeightThenHops g) (Marked b0) (Marked b) (Kept b) (HeldIn b c) (ListedIn b winners)
+  pub inside : ClassInvariant g (ByWeightThenHops g) (Marked b0) (Marked b) (Kept b) (HeldIn b c) (ListedIn b winners)
       (WonIn c) cl
 
 -- the class is done: the next can be taken, and what is held ranks higher
@@ -88,13 +88,13 @@ pub record JoinsAreFormed (s : Stage) (birth : ℕ) (done : List (List ℕ)) (b 
   pub start : ClassIsTaken s.graph birth s.opening s.class s.winners s.before s.held
   pub promotion : IsPromoted s.before s.winners s.promoted
   pub grown : IsGrown s.graph birth s.opening b
-  pub fits : Fits c b.arena
+  pub fits : ClassesFit c b.arena
   pub marks : b.marked ≡ s.promoted.marked
   pub still : (id : ℕ) → IsLive s.before.arena id → path_at b.arena id ≡ path_at s.before.arena id
   pub won : c.won ≡ s.held.won
   pub vertices : c.vertices ≡ s.held.vertices
   pub joins : (p : List ℕ) → Contains done p → IsJoin s.graph (Marked s.before) (ListedIn s.before s.winners) p
-  pub forming : IsForming s.graph (Then (Marked s.before) (ListedIn s.before s.winners)) (Kept s.before)
+  pub forming : FormingInvariant s.graph (Then (Marked s.before) (ListedIn s.before s.winners)) (Kept s.before)
       (HeldIn s.before s.held) (WonIn s.held) done (Kept b) (HeldIn b c)
 
 -- the join of one of these pairs, unless its first vertex would be its last

@@ -2,17 +2,17 @@
 use Rattle.std.specs.Prelude.{◌≡◌, ◌≢◌, ℕ, ◌⊎◌, None}
 use Rattle.apsp_model.specs.Walk.{first, last}
 use Rattle.path_arena.specs.Arena.{path_at, list_of, joined_path}
-use Rattle.path_book.specs.Book.{Book, with_kept, IsLeastKept}
+use Rattle.path_book.specs.Book.{Book, with_kept, IsLeastKeptId}
 use Rattle.pair_heaps.specs.Heaps.{HasEnds}
 use Rattle.weight_classes.specs.Classes.{Classes, IsPushed}
 
 -- a kept path from x to y is held where it is the least of its pair
 abbrev pub IsQueuedIfLeast : Book → ℕ → ℕ → ℕ → Classes → Classes → Type 0
 IsQueuedIfLeast b x y id old new =
-    (IsLeastKept b x y id × IsPushed old new b.arena id) ⊎ ((q : ℕ) × (q ≢ id) × IsLeastKept b x y q × (new ≡ old))
+    (IsLeastKeptId b x y id × IsPushed old new b.arena id) ⊎ ((q : ℕ) × (q ≢ id) × IsLeastKeptId b x y q × (new ≡ old))
 
 -- the join of l and r is kept, with this birth
-pub record IsFormed (b : Book) (c : Classes) (l r birth : ℕ) (after : Book) (held : Classes) : Type 0 where
+pub record IsJoinFormed (b : Book) (c : Classes) (l r birth : ℕ) (after : Book) (held : Classes) : Type 0 where
   pub id : ℕ
   pub from : ℕ
   pub to : ℕ
@@ -25,4 +25,4 @@ pub record IsFormed (b : Book) (c : Classes) (l r birth : ℕ) (after : Book) (h
 abbrev pub IsJoined : Book → Classes → ℕ → ℕ → ℕ → Book → Classes → Type 0
 IsJoined b c l r birth after held =
     ((first (list_of b.arena l) ≡ last (list_of b.arena r)) × (after ≡ b) × (held ≡ c))
-    ⊎ ((first (list_of b.arena l) ≢ last (list_of b.arena r)) × IsFormed b c l r birth after held)
+    ⊎ ((first (list_of b.arena l) ≢ last (list_of b.arena r)) × IsJoinFormed b c l r birth after held)

@@ -4,7 +4,7 @@ ghost use Rattle.std.specs.Prelude.{◌≡◌, ℕ, OnOk, OnErr, Contains, []};
 ghost use Rattle.apsp_model.specs.Walk.{IsOnceEach, first, last};
 ghost use Rattle.path_arena.specs.Arena.{list_of, IsLive, CanJoin, joined_path};
 ghost use Rattle.path_book.specs.Book.{IsBook, IsMarked, IsNewList};
-ghost use Rattle.weight_classes.specs.Classes.{Fits};
+ghost use Rattle.weight_classes.specs.Classes.{ClassesFit};
 ghost use Rattle.fixup.specs.Joining.{IsJoined};
 ghost use Rattle.fixup.specs.Owing.{CanBeWinners, IsPromoted, AreOwed};
 ghost use Rattle.fixup.specs.Stage.{Stage};
@@ -17,7 +17,6 @@ use apsp_io::Gate;
 use apsp_model::Memory;
 use path_arena::PathId;
 use path_book::Book;
-use std::cmp::Ordering;
 use std::marker::Sync;
 use std::thread::Threads;
 use weight_classes::Classes;
@@ -63,7 +62,7 @@ pub fn promote_class<R: Threads + Sync, G: Gate>(
 {
     joins.clear();
     promote_all(book, winners)?;
-    list_joins(workers, book, winners, Ordering::Less, joins)
+    list_joins(workers, book, winners, joins)
 }
 
 /// Makes the winners historical.
@@ -116,10 +115,10 @@ fn join(
         → CanJoin book.old.arena l r }
     requires new { (first (list_of book.old.arena l) ≡ last (list_of book.old.arena r) → ⊥)
         → IsNewList book.old (joined_path book.old.arena l r birth).list }
-    requires fits { Fits classes.old book.old.arena }
+    requires fits { ClassesFit classes.old book.old.arena }
     ensures joined { OnOk result (IsJoined book.old classes.old l r birth book.new classes.new) }
     ensures lawful { IsBook book.new }
-    ensures fits { OnOk result (Fits classes.new book.new.arena) }
+    ensures fits { OnOk result (ClassesFit classes.new book.new.arena) }
 {
     let arena = book.arena();
     let (from, to) = (arena.first(l), arena.last(r));

@@ -1,11 +1,11 @@
 //! The joins that the winners of a class list.
 
-ghost use Rattle.std.specs.Prelude.{◌≡◌, ℕ, ◌↔◌, IsTrue, OnOk, Contains, length};
+ghost use Rattle.std.specs.Prelude.{◌≡◌, ℕ, ◌+◌, ◌≤◌, ◌↔◌, ◌++◌, IsTrue, OnOk, Contains, length, map, vec_len, vec_capacity};
 ghost use Rattle.apsp_model.specs.Walk.{IsOnceEach};
 ghost use Rattle.path_arena.specs.Arena.{IsLive};
-ghost use Rattle.weight_classes.specs.Classes.{InOrder, pair_cmp};
+ghost use Rattle.weight_classes.specs.Classes.{InOrder, ends_cmp};
 ghost use Rattle.fixup.specs.Owing.{CanBeWinners};
-ghost use Rattle.fixup.specs.Listing.{AreAdded, ListedByAny, Lists, ListsFrom, Yields, join_at};
+ghost use Rattle.fixup.specs.Listing.{AreAdded, ListedByAny, Lists, ListsFrom, Yields, all_joins, join_at};
 
 use apsp_io::{Gate, TASK};
 use apsp_model::Memory;
@@ -49,41 +49,43 @@ impl Side {
 pub(crate) fn list_alone<G: Gate>(
     book: &Book,
     winners: &[PathId],
-    order: Ordering,
     joins: &mut Vec<Join>,
     gate: &G,
 ) -> Result<(), Memory>
     requires class { CanBeWinners book.now winners.now }
     ensures listed { OnOk result
-        (AreAdded (ListedByAny book.now winners.now order) joins.old.items joins.new.items) }
+        (AreAdded (ListedByAny book.now winners.now) joins.old.items joins.new.items) }
 {
     'winners: for &winner in winners {
         gate.pass(0, TASK);
-        list_winner(book, winners, order, winner, joins)?;
+        list_winner(book, winners, winner, joins)?;
     }
     Ok(())
 }
 
-/// Lists the joins of a winner with its historical partners. A partner that is a winner too yields
-/// where it stands in this order to it.
+/// Lists the joins of a winner with its historical partners. Of two winners that are partners the
+/// greater one lists the join.
 #[inline(always)]
 pub(crate) fn list_winner(
     book: &Book,
     winners: &[PathId],
-    order: Ordering,
     winner: PathId,
     joins: &mut Vec<Join>,
 ) -> Result<(), Memory>
     requires class { CanBeWinners book.now winners.now }
     requires one { Contains winners.now winner }
     ensures listed { OnOk result
-        (AreAdded (Lists book.now winners.now order winner) joins.old.items joins.new.items) }
+        (AreAdded (Lists book.now winners.now winner) joins.old.items joins.new.items) }
 {
     let (arena, lists) = (book.arena(), book.lists());
     let (left, right) = (arena.left_part(winner), arena.right_part(winner));
     let (in_front, behind) = (lists.left_star(left), lists.right_star(right));
-    list_side(arena, winners, order, winner, in_front, Side::Left, joins)?;
-    list_side(arena, winners, order, winner, behind, Side::Right, joins)
+    // No partner of the only winner of a class is a winner.
+    if winners.len() == 1 {
+        return list_all(winner, in_front, behind, joins);
+    }
+    list_side(arena, winners, winner, in_front, Side::Left, joins)?;
+    list_side(arena, winners, winner, behind, Side::Right, joins)
 }
 
 /// Lists the joins of a winner with the partners on one side.
@@ -91,7 +93,6 @@ pub(crate) fn list_winner(
 fn list_side(
     arena: &Arena,
     winners: &[PathId],
-    order: Ordering,
     winner: PathId,
     partners: &[PathId],
     side: Side,
@@ -101,16 +102,12 @@ fn list_side(
     requires live { (w : ℕ) → Contains winners.now w → IsLive arena.now w }
     requires one { Contains winners.now winner }
     requires all { (q : ℕ) → Contains partners.now q → IsLive arena.now q }
-    requires apart { (q : ℕ) → Contains partners.now q → q ≡ winner → ⊥ }
     requires once { IsOnceEach partners.now }
     ensures listed { OnOk result
-        (AreAdded (ListsFrom arena.now winners.now order winner side partners.now) joins.old.items joins.new.items) }
+        (AreAdded (ListsFrom arena.now winners.now winner side partners.now) joins.old.items joins.new.items) }
 {
-    if winners.len() == 1 {
-        return list_all(arena, winners, order, winner, partners, side, joins);
-    }
     'partners: for &partner in partners {
-        if lists(arena, winners, order, winner, partner) {
+        if lists(arena, winners, winner, partner) {
             let Ok(()) = joins.push(side.join(winner, partner)) else {
                 return Err(Memory);
             };
@@ -119,61 +116,47 @@ fn list_side(
     Ok(())
 }
 
-/// The same for the only winner of a class. None of its partners is a winner.
+/// Lists the joins of a winner with all partners on both sides.
 #[inline(always)]
 fn list_all(
-    _arena: &Arena,
-    winners: &[PathId],
-    _order: Ordering,
     winner: PathId,
-    partners: &[PathId],
-    side: Side,
+    in_front: &[PathId],
+    behind: &[PathId],
     joins: &mut Vec<Join>,
 ) -> Result<(), Memory>
-    requires only { length winners.now ≡ 1 }
-    requires one { Contains winners.now winner }
-    requires apart { (q : ℕ) → Contains partners.now q → q ≡ winner → ⊥ }
-    requires once { IsOnceEach partners.now }
     ensures listed { OnOk result
-        (AreAdded (ListsFrom _arena.now winners.now _order winner side partners.now) joins.old.items joins.new.items) }
+        (joins.new.items ≡ joins.old.items ++ all_joins winner in_front.now behind.now) }
 {
-    joins.reserve(partners.len()).map_err(|_| Memory)?;
-    'partners: for &partner in partners {
-        joins.push_reserved(side.join(winner, partner));
-    }
+    joins
+        .reserve(in_front.len() + behind.len())
+        .map_err(|_| Memory)?;
+    push_all(winner, in_front, Side::Left, joins);
+    push_all(winner, behind, Side::Right, joins);
     Ok(())
 }
 
-/// Whether a winner lists its join with a partner: where that is no winner, or one that stands in
-/// this order to it. No partner of the only winner of a class is a winner.
-fn lists(
-    arena: &Arena,
-    winners: &[PathId],
-    order: Ordering,
-    winner: PathId,
-    partner: PathId,
-) -> bool
+/// Puts the joins of a winner with all partners on one side behind the others. There is room.
+#[inline(always)]
+fn push_all(winner: PathId, partners: &[PathId], side: Side, joins: &mut Vec<Join>)
+    requires room { vec_len joins.old + length partners.now ≤ vec_capacity joins.old }
+    ensures listed { joins.new.items ≡ joins.old.items ++ map (join_at side winner) partners.now }
+    ensures capacity { vec_capacity joins.new ≡ vec_capacity joins.old }
+{
+    'partners: for &partner in partners {
+        joins.push_reserved(side.join(winner, partner));
+    }
+}
+
+/// Whether a winner lists its join with a partner: where that is below it, or no winner.
+fn lists(arena: &Arena, winners: &[PathId], winner: PathId, partner: PathId) -> bool
     requires sorted { InOrder arena.now winners.now }
     requires live { (w : ℕ) → Contains winners.now w → IsLive arena.now w }
     requires one { Contains winners.now winner }
     requires other { IsLive arena.now partner }
-    requires apart { partner ≡ winner → ⊥ }
-    ensures { IsTrue result ↔ Yields arena.now winners.now order winner partner }
+    ensures { IsTrue result ↔ Yields arena.now winners.now winner partner }
 {
-    winners.len() == 1
-        || !is_winner(arena, winners, partner)
-        || stands_in(arena.compare(partner, winner), order)
-}
-
-/// Whether what was found is this order.
-fn stands_in(found: Ordering, order: Ordering) -> bool
-    ensures { IsTrue result ↔ found ≡ order }
-{
-    match order {
-        Ordering::Less => found.is_lt(),
-        Ordering::Equal => found.is_eq(),
-        Ordering::Greater => found.is_gt(),
-    }
+    // The search comes last: many partners are below the winner.
+    arena.compare(partner, winner).is_lt() || !is_winner(arena, winners, partner)
 }
 
 /// Whether an id is among the winners, which stand in the order of their pairs.
@@ -200,7 +183,7 @@ fn is_winner(arena: &Arena, winners: &[PathId], id: PathId) -> bool
 fn compare_pairs(arena: &Arena, a: PathId, b: PathId) -> Ordering
     requires first { IsLive arena.now a }
     requires second { IsLive arena.now b }
-    ensures { result ≡ pair_cmp arena.now a b }
+    ensures { result ≡ ends_cmp arena.now a b }
 {
     arena
         .first(a)

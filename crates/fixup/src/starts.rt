@@ -16,13 +16,6 @@ use path_book::Book;
 use std::alloc::Global;
 use weight_classes::Classes;
 
-/// Shows the prover that a book is lawful, as any reader of a book does.
-pub(crate) fn see_lawful(book: &Book)
-    ensures lawful { IsBook book.now }
-{
-    let _ = book.count_paths();
-}
-
 /// Keeps the edges at v.
 pub(crate) fn form_edges(book: &mut Book, graph: &Graph, v: u32, birth: u64) -> Result<(), Memory>
     requires same { book.old.arena.vertices ≡ graph.now.vertices }
@@ -33,7 +26,7 @@ pub(crate) fn form_edges(book: &mut Book, graph: &Graph, v: u32, birth: u64) -> 
     ensures lawful { OnErr result (IsBook book.new) }
 {
     let n = graph.vertices();
-    see_lawful(book);
+    book.show_lawful();
     'edges: for u in 0..n {
         form_edge(book, graph, v, u, birth)?;
         form_edge(book, graph, u, v, birth)?;
@@ -51,7 +44,7 @@ fn form_edge(book: &mut Book, graph: &Graph, from: u32, to: u32, birth: u64) -> 
     ensures lawful { IsBook book.new }
     ensures vertices { OnOk result (book.new.arena.vertices ≡ book.old.arena.vertices) }
 {
-    see_lawful(book);
+    book.show_lawful();
     if let Some(weight) = graph.weight(from, to) {
         book.form_edge(from, to, weight, birth)?;
     }

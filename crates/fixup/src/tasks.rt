@@ -11,7 +11,6 @@ use apsp_model::{MOST_VERTICES, Memory};
 use path_arena::PathId;
 use path_book::Book;
 use std::alloc::Global;
-use std::cmp::Ordering;
 use std::marker::{Model, Sync};
 use std::thread::Threads;
 use task_pool::{Job, run_tasks};
@@ -38,7 +37,6 @@ struct Listing<'a> {
     alloc: Global,
     book: &'a Book,
     winners: &'a [PathId],
-    order: Ordering,
 }
 
 impl<'a> Model for Listing<'a> {
@@ -49,7 +47,7 @@ impl<'a> Model for Listing<'a> {
 
     ghost coded = { class_code };
 
-    ghost view = { λ o. record { book = o.book.now; winners = o.winners.now; order = o.order } };
+    ghost view = { λ o. record { book = o.book.now; winners = o.winners.now } };
 
     ghost invariant = { λ o. CanBeWinners o.book.now o.winners.now };
 }
@@ -69,7 +67,6 @@ impl<'a> Job for Listing<'a> {
         list_winner(
             self.book,
             self.winners,
-            self.order,
             self.winners[task as usize],
             &mut joins,
         )?;
@@ -77,25 +74,24 @@ impl<'a> Job for Listing<'a> {
     }
 }
 
-/// Lists the joins of each winner, one winner behind another. A partner that is a winner too yields
-/// where it stands in this order to the winner. The gate is passed for each.
+/// Lists the joins of each winner, one winner behind another. Of two winners that are partners the
+/// greater one lists the join. The gate is passed for each.
 pub(crate) fn list_joins<R: Threads + Sync, G: Gate>(
     workers: &Workers<'_, R, G>,
     book: &Book,
     winners: &[PathId],
-    order: Ordering,
     joins: &mut Vec<Join>,
 ) -> Result<(), Memory>
     requires class { CanBeWinners book.now winners.now }
     ensures listed { OnOk result
-        (AreAdded (ListedByAny book.now winners.now order) joins.old.items joins.new.items) }
+        (AreAdded (ListedByAny book.now winners.now) joins.old.items joins.new.items) }
 {
     if workers.count > 1 && has_partners(book, winners, workers.many) {
         if let Ok(tasks) = u32::try_from(winners.len()) {
-            return list_by_tasks(workers, book, winners, order, tasks, joins);
+            return list_by_tasks(workers, book, winners, tasks, joins);
         }
     }
-    list_alone(book, winners, order, joins, workers.gate)
+    list_alone(book, winners, joins, workers.gate)
 }
 
 /// Lists the joins of each winner by a task of its own, and puts the lists one behind another.
@@ -103,20 +99,18 @@ fn list_by_tasks<R: Threads + Sync, G: Gate>(
     workers: &Workers<'_, R, G>,
     book: &Book,
     winners: &[PathId],
-    order: Ordering,
     tasks: u32,
     joins: &mut Vec<Join>,
 ) -> Result<(), Memory>
     requires class { CanBeWinners book.now winners.now }
     requires all { tasks ≡ length winners.now }
     ensures listed { OnOk result
-        (AreAdded (ListedByAny book.now winners.now order) joins.old.items joins.new.items) }
+        (AreAdded (ListedByAny book.now winners.now) joins.old.items joins.new.items) }
 {
     let class = Listing {
         alloc: workers.alloc,
         book,
         winners,
-        order,
     };
     let lists = run_tasks(
         workers.rt,

@@ -1,7 +1,7 @@
 use Rattle.std.proofs.Common.{◌≡◌, ℕ, ◌∙◌, sym, ap, subst, Some}
 use Rattle.apsp_model.specs.Walk.{first, last}
 use Rattle.path_arena.specs.Arena.{Arena, list_of}
-use Rattle.weight_classes.specs.Classes.{Fits}
+use Rattle.weight_classes.specs.Classes.{ClassesFit}
 use Rattle.fixup.proofs.Joined.{fits_now, not_held, joined_left}
 use Rattle.fixup.proofs.class.join.Goals as goal
 
@@ -10,7 +10,7 @@ same_vertex x y e = cc
 
 pub push-requires-clause-fits : goal.push-requires-clause-fits
 push-requires-clause-fits c =
-    subst (λ (a : Arena). Fits c.args.classes.now a) (sym c.arena.ensures.lent) (fits_now c.args.book.now c.args.l c.args.r c.args.birth c.in_ok-formed.formed.id c.form_join_between.new.self c.in_ok-formed.ensures.fresh c.in_ok-formed.ensures.formed c.args.classes.now c.requires.fits)
+    subst (λ (a : Arena). ClassesFit c.args.classes.now a) (sym c.arena.ensures.lent) (fits_now c.args.book.now c.args.l c.args.r c.args.birth c.in_ok-formed.formed.id c.form_join_between.new.self c.in_ok-formed.ensures.fresh c.in_ok-formed.ensures.formed c.args.classes.now c.requires.fits)
 
 pub push-requires-clause-fresh : goal.push-requires-clause-fresh
 push-requires-clause-fresh c = not_held c.args.book.now c.args.l c.args.r c.args.birth c.in_ok-formed.formed.id c.form_join_between.new.self c.in_ok-formed.ensures.fresh c.in_ok-formed.ensures.formed c.args.classes.now c.requires.fits

@@ -1,5 +1,5 @@
 use Rattle.std.proofs.Common.{List, sym, subst}
-use Rattle.pair_heaps.proofs.Places.{on_ok}
+use Rattle.std.proofs.lemmas.Result.{on_ok_weaker}
 use Rattle.fixup.specs.declared.listing.Join.{Join}
 use Rattle.fixup.specs.Owing.{AreOwed}
 use Rattle.fixup.specs.Stage.{Stage}
@@ -35,4 +35,4 @@ keep_joins-requires-clause-once g c =
 pub returns-clause-done : goal.returns-clause-done
 returns-clause-done g c =
     let owed : AreOwed c.promote_class.new.book c.args.winners.now c.deref.result.now = subst (λ (js : List Join). AreOwed c.promote_class.new.book c.args.winners.now js) (sym c.deref.ensures.value) c.in_ok-promote_class.ensures.owed in
-    on_ok c.keep_joins.result (λ done s t. staged_done c.args.birth c.args.winners.now c.args.book.now c.args.classes.now c.promote_class.new.book c.in_ok-promote_class.ensures.promoted s t c.deref.result.now owed c.keep_joins.new.book c.keep_joins.new.classes done) c.keep_joins.ensures.done
+    on_ok_weaker c.keep_joins.result (λ done s t. staged_done c.args.birth c.args.winners.now c.args.book.now c.args.classes.now c.promote_class.new.book c.in_ok-promote_class.ensures.promoted s t c.deref.result.now owed c.keep_joins.new.book c.keep_joins.new.classes done) c.keep_joins.ensures.done
