@@ -8,9 +8,9 @@ use Rattle.apsp_model.specs.Graph.{Graph}
 use Rattle.apsp_model.specs.Star.{Star, star_of}
 use Rattle.apsp_model.specs.Command.{Update}
 use Rattle.graph_store.specs.Plan.{Plan, IsPlan, IsVersionOf, graph_after, hi_of}
-use Rattle.version_face.specs.Seen.{Seen as Version}
+use Rattle.version_face.specs.Seen.{VersionSeen as Version}
 use Rattle.pin_cells.specs.Pinned.{IsOfPlan}
-use Rattle.history_engine.specs.Seen.{Seen}
+use Rattle.history_engine.specs.Seen.{EngineSeen}
 use Rattle.history_engine.specs.Advance.{Advance, AdvanceByStar}
 use Rattle.history_engine.specs.Answers.{IsSpentBy}
 use Rattle.history_engine.specs.declared.engine.EngineError.{EngineError}
@@ -22,23 +22,23 @@ use Rattle.block_run.specs.Publishing.{CanPublish, IsNextOf}
 -- ---- lists of updates
 
 -- one update behind the others
-advances_more : (stars : List Star) (star : Star) (a b c : Seen) → AdvancesBy a stars b → Advance b (Update star) c → AdvancesBy a (stars ++ star ∷ []) c
-advances_more [] star a b c h more = (c, subst (λ (e : Seen). Advance e (Update star) c) h more, refl)
+advances_more : (stars : List Star) (star : Star) (a b c : EngineSeen) → AdvancesBy a stars b → Advance b (Update star) c → AdvancesBy a (stars ++ star ∷ []) c
+advances_more [] star a b c h more = (c, subst (λ (e : EngineSeen). Advance e (Update star) c) h more, refl)
 advances_more (s ∷ stars) star a b c h more = (h.0, h.1, advances_more stars star h.0 b c h.2 more)
 
 -- where updates lead
-pub record Reaches (a : Seen) (stars : List Star) (b : Seen) : Type 0 where
+pub record Reaches (a : EngineSeen) (stars : List Star) (b : EngineSeen) : Type 0 where
   pub graph : b.graph ≡ graph_after a.graph stars
   pub vertices : length b.vertices ≡ length a.vertices + length stars
   pub opening : b.opening ≡ a.opening
   pub not_spent : a.spent ≡ false → b.spent ≡ false
 
-pub reaches : (stars : List Star) (a b : Seen) → AdvancesBy a stars b → Reaches a stars b
+pub reaches : (stars : List Star) (a b : EngineSeen) → AdvancesBy a stars b → Reaches a stars b
 reaches [] a b h = record {
-  graph = ap (λ (e : Seen). e.graph) h;
-  vertices = omega (arith, ap (λ (e : Seen). length e.vertices) h);
-  opening = ap (λ (e : Seen). e.opening) h;
-  not_spent = λ unspent. ap (λ (e : Seen). e.spent) h ∙ unspent;
+  graph = ap (λ (e : EngineSeen). e.graph) h;
+  vertices = omega (arith, ap (λ (e : EngineSeen). length e.vertices) h);
+  opening = ap (λ (e : EngineSeen). e.opening) h;
+  not_spent = λ unspent. ap (λ (e : EngineSeen). e.spent) h ∙ unspent;
 }
 reaches (s ∷ stars) a b h =
     let m : AdvanceByStar a s h.0 = h.1 in
@@ -52,11 +52,11 @@ reaches (s ∷ stars) a b h =
 -- ---- the end of a block
 
 -- no update was taken
-pub none_taken : (e : Seen) (stars : List Star) → IsCutOff e stars e
+pub none_taken : (e : EngineSeen) (stars : List Star) → IsCutOff e stars e
 none_taken e stars = record { count = 0; inside = omega arith; reached = e; taken = refl; end = inl refl }
 
 -- all were taken, and memory ran out elsewhere
-pub all_taken : (a b : Seen) (stars : List Star) → AdvancesBy a stars b → IsCutOff a stars b
+pub all_taken : (a b : EngineSeen) (stars : List Star) → AdvancesBy a stars b → IsCutOff a stars b
 all_taken a b stars h = record {
   count = length stars;
   inside = omega arith;
@@ -65,16 +65,16 @@ all_taken a b stars h = record {
   end = inl refl;
 }
 
-pub cut_opening : (a b : Seen) (stars : List Star) → IsCutOff a stars b → b.opening ≡ a.opening
+pub cut_opening : (a b : EngineSeen) (stars : List Star) → IsCutOff a stars b → b.opening ≡ a.opening
 cut_opening a b stars h = at b h.end ∙ (reaches (take h.count stars) a h.reached h.taken).opening
   where
-    at : (e : Seen) → (e ≡ h.reached) ⊎ IsSpentBy h.reached e → e.opening ≡ h.reached.opening
-    at e (inl same) = ap (λ (s : Seen). s.opening) same
-    at e (inr spent) = ap (λ (s : Seen). s.opening) spent
+    at : (e : EngineSeen) → (e ≡ h.reached) ⊎ IsSpentBy h.reached e → e.opening ≡ h.reached.opening
+    at e (inl same) = ap (λ (s : EngineSeen). s.opening) same
+    at e (inr spent) = ap (λ (s : EngineSeen). s.opening) spent
 
 -- ---- an engine on its way through a plan
 
-module _ (plan : Plan) (is : IsPlan plan) (a : Seen) (start : IsStartOf plan a) (unspent : a.spent ≡ false) (n : ℕ) (from_lo : plan.lo ≤ n) (b : Seen) (h : AdvancesBy a (take (n - plan.lo) plan.stars) b) where
+module _ (plan : Plan) (is : IsPlan plan) (a : EngineSeen) (start : IsStartOf plan a) (unspent : a.spent ≡ false) (n : ℕ) (from_lo : plan.lo ≤ n) (b : EngineSeen) (h : AdvancesBy a (take (n - plan.lo) plan.stars) b) where
   -- it took as many updates as its number is above lo
   pub number_is : n ≤ hi_of plan → length b.vertices ≡ n
   number_is to_hi = omega (arith, (reaches (take (n - plan.lo) plan.stars) a b h).vertices, start.number, length-take-le (n - plan.lo) plan.stars (omega (arith, from_lo, to_hi)), from_lo)
@@ -107,7 +107,7 @@ module _ (plan : Plan) (is : IsPlan plan) (a : Seen) (start : IsStartOf plan a) 
         subst (λ (s : Star). s.vertices ≡ plan.start.vertices) (get_or_from_slice_get plan.stars (n - plan.lo) star star here)
         (All-get_or (λ (s : Star). s.vertices ≡ plan.start.vertices) plan.stars (n - plan.lo) star (slice_get_within plan.stars (n - plan.lo) star here) is.vertices)
 
-    pub one_more : (c : Seen) → Advance b (Update star) c → AdvancesBy a (take (n + 1 - plan.lo) plan.stars) c
+    pub one_more : (c : EngineSeen) → Advance b (Update star) c → AdvancesBy a (take (n + 1 - plan.lo) plan.stars) c
     one_more c more =
         let k : n + 1 - plan.lo ≡ n - plan.lo + 1 = omega (arith, from_lo) in
         let front : take (n + 1 - plan.lo) plan.stars ≡ take (n - plan.lo) plan.stars ++ star ∷ [] =
@@ -115,19 +115,19 @@ module _ (plan : Plan) (is : IsPlan plan) (a : Seen) (start : IsStartOf plan a) 
         subst (λ xs. AdvancesBy a xs c) (sym front) (advances_more (take (n - plan.lo) plan.stars) star a b c h more)
 
   -- memory ran out in the next update
-  pub spent_at : n ≤ hi_of plan → (c : Seen) → IsSpentBy b c → IsCutOff a plan.stars c
+  pub spent_at : n ≤ hi_of plan → (c : EngineSeen) → IsSpentBy b c → IsCutOff a plan.stars c
   spent_at to_hi c spent = record { count = n - plan.lo; inside = omega (arith, from_lo, to_hi); reached = b; taken = h; end = inr spent }
 
 -- ---- the publisher's loop
 
 -- the engine took the updates up to this number, which is announced
-pub record IsPublishing (pool : Pool) (plan : Plan) (before : Seen) (number : ℕ) (publisher : Publisher) (e : Seen) : Type 0 where
+pub record IsPublishing (pool : Pool) (plan : Plan) (before : EngineSeen) (number : ℕ) (publisher : Publisher) (e : EngineSeen) : Type 0 where
   pub from_lo : plan.lo ≤ number
   pub taken : AdvancesBy before (take (number - plan.lo) plan.stars) e
   pub publisher_of : IsPublisherOf pool publisher
   pub announced : publisher.mark.number ≡ number
 
-pub publishing_starts : (pool : Pool) (plan : Plan) (e : Seen) (publisher : Publisher) → CanPublish pool publisher e plan → IsPublishing pool plan e plan.lo publisher e
+pub publishing_starts : (pool : Pool) (plan : Plan) (e : EngineSeen) (publisher : Publisher) → CanPublish pool publisher e plan → IsPublishing pool plan e plan.lo publisher e
 publishing_starts pool plan e publisher can = record {
   from_lo = omega arith;
   taken = let F : ℕ → Type 0 = λ k. AdvancesBy e (take k plan.stars) e in subst F (let z : 0 ≡ plan.lo - plan.lo = omega arith in z) refl;
@@ -135,7 +135,7 @@ publishing_starts pool plan e publisher can = record {
   announced = can.announced;
 }
 
-module _ (pool : Pool) (plan : Plan) (is : IsPlan plan) (first : Publisher) (before : Seen) (can : CanPublish pool first before plan) (n : ℕ) (publisher : Publisher) (e : Seen) (h : IsPublishing pool plan before n publisher e) (star : Star) (next : slice_get plan.stars (n + 1 - plan.lo - 1) ≡ Some star) where
+module _ (pool : Pool) (plan : Plan) (is : IsPlan plan) (first : Publisher) (before : EngineSeen) (can : CanPublish pool first before plan) (n : ℕ) (publisher : Publisher) (e : EngineSeen) (h : IsPublishing pool plan before n publisher e) (star : Star) (next : slice_get plan.stars (n + 1 - plan.lo - 1) ≡ Some star) where
   below_hi : n < hi_of plan
   below_hi = omega (arith, slice_get_within plan.stars (n + 1 - plan.lo - 1) star next, h.from_lo)
 
@@ -148,10 +148,10 @@ module _ (pool : Pool) (plan : Plan) (is : IsPlan plan) (first : Publisher) (bef
   pub unspent_here : e.spent ≡ false
   unspent_here = still_unspent plan is before can.start can.not_spent n h.from_lo e h.taken
 
-  pub cut_here : (c : Seen) → IsSpentBy e c → IsCutOff before plan.stars c
+  pub cut_here : (c : EngineSeen) → IsSpentBy e c → IsCutOff before plan.stars c
   cut_here c spent = spent_at plan is before can.start can.not_spent n h.from_lo e h.taken (omega (arith, below_hi)) c spent
 
-  module _ (c : Seen) (more : Advance e (Update star) c) where
+  module _ (c : EngineSeen) (more : Advance e (Update star) c) where
     taken_more : AdvancesBy before (take (n + 1 - plan.lo) plan.stars) c
     taken_more = one_more plan is before can.start can.not_spent n h.from_lo e h.taken star next c more
 
@@ -166,7 +166,7 @@ module _ (pool : Pool) (plan : Plan) (is : IsPlan plan) (first : Publisher) (bef
     goes_on p of_pool number = record { from_lo = omega (arith, h.from_lo); taken = taken_more; publisher_of = of_pool; announced = omega (arith, number, h.announced) }
 
 -- an engine that is not spent answers nothing but want of memory
-pub spent_by : {A : Type 0} (x : EngineError) (r : Result A EngineError) (e c : Seen) → r ≡ Err x → e.spent ≡ false → ((r ≡ Err error.Spent) ↔ (e.spent ≡ true)) → (r ≡ Err error.Memory → IsSpentBy e c) → IsSpentBy e c
+pub spent_by : {A : Type 0} (x : EngineError) (r : Result A EngineError) (e c : EngineSeen) → r ≡ Err x → e.spent ≡ false → ((r ≡ Err error.Spent) ↔ (e.spent ≡ true)) → (r ≡ Err error.Memory → IsSpentBy e c) → IsSpentBy e c
 spent_by error.Spent r e c is unspent spent memory = absurd (let none : ⊥ = (let both : false ≡ true = sym unspent ∙ spent.0 is in cc) in none)
 spent_by error.Memory r e c is unspent spent memory = memory is
 
@@ -176,7 +176,7 @@ on_err (Ok v) p = tt
 on_err (Err x) p = p
 
 -- no star is left
-pub at_end : (plan : Plan) (a b : Seen) (n : ℕ) → hi_of plan ≤ n → AdvancesBy a (take (n - plan.lo) plan.stars) b → AdvancesBy a plan.stars b
+pub at_end : (plan : Plan) (a b : EngineSeen) (n : ℕ) → hi_of plan ≤ n → AdvancesBy a (take (n - plan.lo) plan.stars) b → AdvancesBy a plan.stars b
 at_end plan a b n done h = subst (λ xs. AdvancesBy a xs b) (take_all (n - plan.lo) plan.stars (omega (arith, done))) h
 
 -- the graph of each number has the vertices of the first

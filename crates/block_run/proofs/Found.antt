@@ -6,7 +6,7 @@ use Rattle.apsp_model.specs.Least.{LeastIs}
 use Rattle.apsp_model.proofs.Leasts.{least_unique}
 use Rattle.graph_store.specs.Plan.{Plan, plan_graph, hi_of}
 use Rattle.version_face.specs.Entries.{dist_in, WalkIs}
-use Rattle.version_face.specs.Seen.{Seen, DistIs}
+use Rattle.version_face.specs.Seen.{VersionSeen, DistIs}
 use Rattle.pin_cells.specs.Pinned.{IsOfPlan}
 use Rattle.block_run.specs.declared.asks.Ask.{Ask}
 use Rattle.block_run.specs.declared.answers.Answer.{Answer}
@@ -29,7 +29,7 @@ found_by g x y d list dist walk = record {
   is = walk.is;
 }
 
-seen_from : (plan : Plan) (v : Seen) (ask : Ask) (least : ℕ) (reader : BlockReader) → IsOfPlan plan v → v.number ≡ reader.reader.mark.number → (a : Answer) → IsAnswerFrom v ask least a → IsAnswerSeen plan ask least reader a
+seen_from : (plan : Plan) (v : VersionSeen) (ask : Ask) (least : ℕ) (reader : BlockReader) → IsOfPlan plan v → v.number ≡ reader.reader.mark.number → (a : Answer) → IsAnswerFrom v ask least a → IsAnswerSeen plan ask least reader a
 seen_from plan v ask least reader of number a from = record {
   number = from.number ∙ number;
   not_older = from.not_older;
@@ -43,9 +43,9 @@ seen_from plan v ask least reader of number a from = record {
 }
 
 -- an answer from a version that is held
-pub if_seen_from : {E : Type 0} (plan : Plan) (v held : Seen) (ask : Ask) (least : ℕ) (reader : BlockReader) → v ≡ held → IsOfPlan plan held → held.number ≡ reader.reader.mark.number
+pub if_seen_from : {E : Type 0} (plan : Plan) (v held : VersionSeen) (ask : Ask) (least : ℕ) (reader : BlockReader) → v ≡ held → IsOfPlan plan held → held.number ≡ reader.reader.mark.number
     → (r : Result (Option Answer) E) → IfOk r (λ found. IfSome found (IsAnswerFrom v ask least)) → IfOk r (λ found. IfSome found (IsAnswerSeen plan ask least reader))
-if_seen_from plan v held ask least reader same of number (Ok (Some a)) from = seen_from plan held ask least reader of number a (subst (λ (w : Seen). IsAnswerFrom w ask least a) same from)
+if_seen_from plan v held ask least reader same of number (Ok (Some a)) from = seen_from plan held ask least reader of number a (subst (λ (w : VersionSeen). IsAnswerFrom w ask least a) same from)
 if_seen_from plan v held ask least reader same of number (Ok None) from = tt
 if_seen_from plan v held ask least reader same of number (Err e) from = tt
 

@@ -4,7 +4,7 @@ use Rattle.std.specs.declared.vec.Vec.{Vec}
 use Rattle.std.specs.declared.alloc.Global.{Global}
 use Rattle.apsp_model.specs.declared.Memory.{Memory}
 use Rattle.graph_store.specs.Plan.{Plan, IsPlan}
-use Rattle.version_face.specs.Seen.{Seen}
+use Rattle.version_face.specs.Seen.{VersionSeen}
 use Rattle.version_pool.specs.Pooled.{Pool, IsReaderOf}
 use Rattle.block_run.specs.declared.asks.Ask.{Ask}
 use Rattle.block_run.specs.declared.answers.Answer.{Answer}
@@ -28,7 +28,7 @@ pub record ReadsOn (pool : Pool) (before after : BlockReader) : Type 0 where
   pub later : before.reader.mark.number ≤ after.reader.mark.number
 
 -- what a version answers, which has at least this number
-pub record IsAnswerFrom (v : Seen) (ask : Ask) (least : ℕ) (a : Answer) : Type 0 where
+pub record IsAnswerFrom (v : VersionSeen) (ask : Ask) (least : ℕ) (a : Answer) : Type 0 where
   pub number : a.number ≡ v.number
   pub not_older : least ≤ a.number
   pub x : a.x ≡ ask.x

@@ -3,7 +3,7 @@ use Rattle.std.specs.Prelude.{◌≡◌, ◌⊎◌, ℕ, ◌≤◌, List, [], �
 use Rattle.apsp_model.specs.Star.{Star}
 use Rattle.apsp_model.specs.Command.{Update}
 use Rattle.graph_store.specs.Plan.{Plan}
-use Rattle.history_engine.specs.Seen.{Seen}
+use Rattle.history_engine.specs.Seen.{EngineSeen}
 use Rattle.history_engine.specs.Advance.{Advance}
 use Rattle.history_engine.specs.Answers.{IsSpentBy}
 use Rattle.block_run.specs.declared.asks.Ask.{Ask}
@@ -11,33 +11,33 @@ use Rattle.block_run.specs.declared.answers.Answer.{Answer}
 use Rattle.block_run.specs.Answers.{IsAskOf, BlockReply}
 
 -- the engine took the updates of these stars, one after another
-abbrev pub AdvancesBy : Seen → List Star → Seen → Type 0
+abbrev pub AdvancesBy : EngineSeen → List Star → EngineSeen → Type 0
 AdvancesBy before [] after = after ≡ before
 AdvancesBy before (star ∷ stars) after =
-    (between : Seen) × Advance before (Update star) between × AdvancesBy between stars after
+    (between : EngineSeen) × Advance before (Update star) between × AdvancesBy between stars after
 
 -- the engine took the first ones of these updates, and may be spent since
-pub record IsCutOff (before : Seen) (stars : List Star) (after : Seen) : Type 0 where
+pub record IsCutOff (before : EngineSeen) (stars : List Star) (after : EngineSeen) : Type 0 where
   pub count : ℕ
   pub inside : count ≤ length stars
-  pub reached : Seen
+  pub reached : EngineSeen
   pub taken : AdvancesBy before (take count stars) reached
   pub end : (after ≡ reached) ⊎ IsSpentBy reached after
 
 -- the engine is where the plan begins
-pub record IsStartOf (plan : Plan) (e : Seen) : Type 0 where
+pub record IsStartOf (plan : Plan) (e : EngineSeen) : Type 0 where
   pub graph : e.graph ≡ plan.start
   pub number : length e.vertices ≡ plan.lo
 
 -- the engine may run a block with this plan and these questions
-pub record CanRun (e : Seen) (plan : Plan) (asks : List Ask) : Type 0 where
+pub record CanRun (e : EngineSeen) (plan : Plan) (asks : List Ask) : Type 0 where
   pub not_spent : e.spent ≡ false
   pub start : IsStartOf plan e
   pub asks_of : All (IsAskOf plan) asks
 
 -- a block was run with so many readers, or memory ran out meanwhile
-pub record HasRun {E : Type 0} (readers : ℕ) (before : Seen) (plan : Plan) (asks : List Ask)
-    (result : Result (List Answer) E) (after : Seen) : Type 0 where
+pub record HasRun {E : Type 0} (readers : ℕ) (before : EngineSeen) (plan : Plan) (asks : List Ask)
+    (result : Result (List Answer) E) (after : EngineSeen) : Type 0 where
   pub answers : IfOk result (BlockReply plan asks readers)
   pub taken : OnOk result (AdvancesBy before plan.stars after)
   pub memory : OnErr result (IsCutOff before plan.stars after)

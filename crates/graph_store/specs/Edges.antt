@@ -1,8 +1,7 @@
--- The edges of a star: which are refused, and what one edge more or less leaves, in a star and in a graph.
+-- The edges of a star: which are refused, and what one edge more or less leaves.
 use Rattle.std.specs.Prelude.{ℕ, ◌≤◌, ◌==◌, ◌||◌, nat_lt, nat_le, is_some, if◌then◌else◌, Option, Some, None, Result, Ok, Err}
 use Rattle.std.specs.FinMap as map
 use Rattle.apsp_model.specs.declared.TheConstants.{LEAST_WEIGHT, MOST_WEIGHT}
-use Rattle.apsp_model.specs.Graph.{Graph}
 use Rattle.apsp_model.specs.Star.{Star}
 use Rattle.graph_store.specs.declared.star.StarError.{StarError}
 use Rattle.graph_store.specs.declared.star.StarError.TheVariants.{Vertex, SelfEdge, Repeat, Weight}
@@ -36,8 +35,3 @@ with_edge s edge w = record s { edges = map.insert s.edges edge w }
 abbrev pub with_maybe_edge : Star → ℕ × ℕ → Option ℕ → Star
 with_maybe_edge s edge (Some w) = with_edge s edge w
 with_maybe_edge s edge None = record s { edges = map.remove s.edges edge }
-
--- the graph with that edge where a weight is given, and without it otherwise
-abbrev pub with_maybe_weight : Graph → ℕ × ℕ → Option ℕ → Graph
-with_maybe_weight g edge (Some w) = record g { edges = map.insert g.edges edge w }
-with_maybe_weight g edge None = record g { edges = map.remove g.edges edge }

@@ -1,12 +1,10 @@
 //! The graph, as a table of weights.
 
 ghost use Rattle.std.specs.Prelude.{◌≡◌, ◌<◌, ◌*◌, length, replicate, IfOk, Option, None};
-ghost use Rattle.std.specs.Option.{ForSome};
-ghost use Rattle.apsp_model.specs.Graph.{weight_at, no_edges, IsEdgeOf, IsGraph};
+ghost use Rattle.apsp_model.specs.Graph.{weight_at, no_edges, IsGraph};
 ghost use Rattle.apsp_model.specs.Star.{star_of, star_at, IsStar};
 ghost use Rattle.graph_store.specs.Making.{IsMakeAnswer};
 ghost use Rattle.graph_store.specs.Rows.{HasRow, HasColumn, HasStar, IsColumn};
-ghost use Rattle.graph_store.specs.Edges.{with_maybe_weight};
 
 use crate::star::Star;
 use apsp_model::MOST_VERTICES;
@@ -84,18 +82,6 @@ impl Graph {
         ensures graph { IsGraph self.now }
     {
         self.cells[u as usize * self.vertices as usize + v as usize]
-    }
-
-    /// Sets the edge from u to v, or takes it away. One cell is written.
-    pub fn put_weight(&mut self, u: u32, v: u32, w: Option<u32>)
-        requires from { u < self.old.vertices }
-        requires to { v < self.old.vertices }
-        requires edge { ForSome w (IsEdgeOf self.old.vertices u v) }
-        ensures after { self.new ≡ with_maybe_weight self.old (u, v) w }
-        ensures graph { IsGraph self.new }
-    {
-        let place = u as usize * self.vertices as usize + v as usize;
-        self.cells[place] = w;
     }
 
     /// Replaces all edges at the star's vertex by those of the star, in O(n).

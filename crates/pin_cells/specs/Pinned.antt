@@ -2,7 +2,7 @@
 use Rattle.std.specs.Prelude.{◌≡◌, ℕ, refl}
 use Rattle.std.specs.Coded.{Coded, code_by, coded×, coded_ℕ}
 use Rattle.graph_store.specs.Plan.{Plan, IsVersionOf, plan_code}
-use Rattle.version_face.specs.Seen.{Seen, seen_code}
+use Rattle.version_face.specs.Seen.{VersionSeen, version_seen_code}
 
 -- a plan, and how many slots hold versions of it
 pub record Cells : Type 0 where
@@ -17,12 +17,12 @@ cells_code =
 -- a slot, and the version that stands there
 pub record Pin : Type 0 where
   pub slot : ℕ
-  pub version : Seen
+  pub version : VersionSeen
 
 abbrev pub pin_code : Coded Pin
 pin_code =
-    code_by (ℕ × Seen) (coded× coded_ℕ seen_code) (λ p. (p.slot, p.version)) (λ t. record { slot = t.0; version = t.1 })
-    (λ _. refl)
+    code_by (ℕ × VersionSeen) (coded× coded_ℕ version_seen_code) (λ p. (p.slot, p.version))
+    (λ t. record { slot = t.0; version = t.1 }) (λ _. refl)
 
 -- a slot, and the plan whose versions it takes
 pub record Claimed : Type 0 where
@@ -35,7 +35,7 @@ claimed_code =
     (λ _. refl)
 
 -- the plan's version of its own number
-abbrev pub IsOfPlan : Plan → Seen → Type 0
+abbrev pub IsOfPlan : Plan → VersionSeen → Type 0
 IsOfPlan plan v = IsVersionOf plan v.number v.graph
 
 -- a pin of that slot that shows the plan's version of that number

@@ -18,19 +18,19 @@ abbrev pub lost_of : Tally → ℕ
 lost_of t = min (sum t.lost) (2 ^ 64 - 1)
 
 -- the count rose by one, or stands at its last value
-abbrev pub Rose : ℕ → ℕ → Type 0
-Rose before now = now ≡ min (before + 1) (2 ^ 64 - 1)
+abbrev pub RoseByOne : ℕ → ℕ → Type 0
+RoseByOne before now = now ≡ min (before + 1) (2 ^ 64 - 1)
 
 -- the turns that were lost at one slot rose, and nothing else changed
 pub record LosesAt (before now : Tally) (slot : ℕ) : Type 0 where
-  pub rose : Rose (slice_index before.lost slot) (slice_index now.lost slot)
+  pub rose : RoseByOne (slice_index before.lost slot) (slice_index now.lost slot)
   pub others : (k : ℕ) → k ≢ slot → slice_index now.lost k ≡ slice_index before.lost k
   pub other : now.other ≡ before.other
   pub ask : now.ask ≡ before.ask
 
 -- a pin of the slot had another number than the one that was asked, and nothing else changed
 pub record MeetsOther (before now : Tally) (slot asked found : ℕ) : Type 0 where
-  pub rose : Rose before.other now.other
+  pub rose : RoseByOne before.other now.other
   pub differ : found ≢ asked
   pub lost : now.lost ≡ before.lost
   pub ask : now.ask ≡ Some (record { slot = slot; asked = asked; found = found })

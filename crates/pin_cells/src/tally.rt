@@ -2,10 +2,12 @@
 
 ghost use Rattle.std.specs.Prelude.{◌≡◌, ◌≢◌, ℕ, ◌<◌, replicate, if◌then◌else◌, None, IfSome, IfNone};
 ghost use Rattle.graph_store.specs.Plan.{IsVersionOf};
+ghost use Rattle.apsp_model.specs.declared.TheConstants.{MOST_SLOTS};
 ghost use Rattle.pin_cells.specs.Tallied.{Tally as Tally_seen, lost_of, LosesAt, MeetsOther};
 ghost use Rattle.pin_cells.specs.Pinned.{IsOfPlan};
 
 use crate::cells::Kept;
+use apsp_model::MOST_SLOTS;
 use counted_slot::{Claim, Counted, FREE, MOST_READERS, ONE_READER, PRESENT, TAKEN};
 use std::marker::Model;
 use std::snapshot::Snapshot;
@@ -24,7 +26,7 @@ struct LastAsk {
 /// its last value.
 #[derive(Drop)]
 pub struct Tally {
-    lost: [u64; 64],
+    lost: [u64; MOST_SLOTS as usize],
     other: u64,
     ask: Option<LastAsk>,
 }
@@ -44,16 +46,16 @@ impl Model for Tally {
 impl Tally {
     /// Nothing was lost so far. Takes no memory.
     pub fn new() -> Tally
-        ensures { result ≡ record { lost = replicate 64 0; other = 0; ask = None } }
+        ensures { result ≡ record { lost = replicate MOST_SLOTS 0; other = 0; ask = None } }
     {
         Tally {
-            lost: [0; 64],
+            lost: [0; MOST_SLOTS as usize],
             other: 0,
             ask: None,
         }
     }
 
-    /// How many turns were lost, over all slots: 64 looks.
+    /// How many turns were lost, over all slots, with a look at each.
     pub fn lost(&self) -> u64
         ensures lost { result ≡ lost_of self.now }
         ensures differ { IfSome self.now.ask (λ a. a.found ≢ a.asked) }
@@ -74,7 +76,7 @@ impl Tally {
     }
 
     fn lose(&mut self, slot: u32)
-        requires { slot < 64 }
+        requires { slot < MOST_SLOTS }
         ensures { LosesAt self.old self.new slot }
     {
         let at = slot as usize;
@@ -90,7 +92,7 @@ pub(crate) fn turn_once<'a>(
     to_write: bool,
     tally: &mut Tally,
 ) -> Option<Claim<'a, Kept>>
-    requires { slot < 64 }
+    requires { slot < MOST_SLOTS }
     ensures gained { IfSome result (λ c. (c.right ≡ (if to_write then 2 else 1)) × (c.tag ≡ cell.now)) }
     ensures kept { IfSome result (λ _. tally.new ≡ tally.old) }
     ensures lost { IfNone result (LosesAt tally.old tally.new slot) }

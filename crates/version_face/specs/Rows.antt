@@ -1,6 +1,6 @@
 -- The tables of a version, row by row: the cell of x and y stands at x * n + y.
 use Rattle.std.specs.Prelude.{◌≡◌, ℕ, ◌+◌, ◌*◌, ◌<◌, List, length, slice_index, Option, Some, None}
-use Rattle.apsp_model.specs.Graph.{Graph, IsGraph, weight_at}
+use Rattle.apsp_model.specs.Graph.{Graph, IsGraph}
 use Rattle.version_face.specs.declared.TheConstants.{NO_DISTANCE, NO_HOPS, NO_NEXT}
 use Rattle.version_face.specs.declared.Entry.{Entry}
 use Rattle.version_face.specs.Entries.{CellIs}
@@ -31,8 +31,3 @@ hops_cell (Some e) = e.hops
 abbrev pub next_cell : Option Entry → ℕ
 next_cell None = NO_NEXT
 next_cell (Some e) = e.next
-
--- the edges of the first k pairs, row by row, are those of the other graph
-pub record CopiedBelow (g : Graph) (k : ℕ) (copy : Graph) : Type 0 where
-  pub vertices : copy.vertices ≡ g.vertices
-  pub weights : (u v : ℕ) → v < g.vertices → u * g.vertices + v < k → weight_at copy u v ≡ weight_at g u v

@@ -5,12 +5,12 @@ use Rattle.apsp_model.specs.Graph.{Graph, graph_code}
 use Rattle.apsp_model.specs.Least.{LeastIs}
 use Rattle.version_face.specs.Entries.{dist_in, hops_in, next_in}
 
-pub record Seen : Type 0 where
+pub record VersionSeen : Type 0 where
   pub number : ℕ
   pub graph : Graph
 
-abbrev pub seen_code : Coded Seen
-seen_code =
+abbrev pub version_seen_code : Coded VersionSeen
+version_seen_code =
     code_by (ℕ × Graph) (coded× coded_ℕ graph_code)
     (λ v. (v.number, v.graph)) (λ p. record { number = p.0; graph = p.1 }) (λ _. refl)
 

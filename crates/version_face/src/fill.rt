@@ -1,11 +1,9 @@
-//! The tables and the graph of a version, filled from answers.
+//! The tables of a version, filled from answers.
 
 ghost use Rattle.std.specs.Prelude.{◌≡◌, ◌<◌, ◌*◌, ◌+◌, length, slice_set};
-ghost use Rattle.apsp_model.specs.Graph.{IsGraph};
-ghost use Rattle.version_face.specs.Rows.{AreCells, dist_cell, hops_cell, next_cell, CopiedBelow};
+ghost use Rattle.version_face.specs.Rows.{AreCells, dist_cell, hops_cell, next_cell};
 
 use crate::{Answers, Entry, NO_DISTANCE, NO_HOPS, NO_NEXT};
-use graph_store::Graph;
 
 /// Writes the cells of all pairs.
 pub fn fill_rows<A: Answers>(from: &A, dist: &mut [u64], hops: &mut [u32], next: &mut [u32])
@@ -58,29 +56,4 @@ fn put_cell(
     dist[place] = cells.0;
     hops[place] = cells.1;
     next[place] = cells.2;
-}
-
-/// Gives the graph the edges of the answers' graph, cell by cell.
-pub fn copy_weights<A: Answers>(from: &A, graph: &mut Graph)
-    requires same { graph.old.vertices ≡ (A.graph from.now).vertices }
-    requires is_graph { IsGraph graph.old }
-    ensures graph { graph.new ≡ A.graph from.now }
-    ensures is_graph { IsGraph graph.new }
-{
-    'rows: for u in 0..from.vertices() {
-        copy_row(from, u, graph);
-    }
-}
-
-/// Gives the graph the edges from u in the answers' graph.
-fn copy_row<A: Answers>(from: &A, u: u32, graph: &mut Graph)
-    requires inside { u < (A.graph from.now).vertices }
-    requires before { CopiedBelow (A.graph from.now) (u * (A.graph from.now).vertices) graph.old }
-    requires is_graph { IsGraph graph.old }
-    ensures after { CopiedBelow (A.graph from.now) ((u + 1) * (A.graph from.now).vertices) graph.new }
-    ensures is_graph { IsGraph graph.new }
-{
-    'cells: for v in 0..from.vertices() {
-        graph.put_weight(u, v, from.weight(u, v));
-    }
 }

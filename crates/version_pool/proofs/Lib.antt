@@ -1,6 +1,5 @@
 mod Sound
 mod Granting
-mod Totals
 mod Steps
 pub mod Versions
 pub mod Pairs

@@ -4,7 +4,7 @@ use mathlib.Core.Logic.{dite}
 use native.Mathlib.Decide.{ℕ_discrete}
 use Rattle.std.specs.Prelude.{slice_get, replicate}
 use Rattle.std.proofs.lemmas.List.{get_or-set_other, get_or-replicate, length-replicate}
-use Rattle.version_pool.specs.Machine.{Mark, Pin, State, Event, Steps, loads, pins, unpins, claims, puts, announces, notes_one, learns, Runs, stays, goes, IsUnpinned, later_of, start, without_at}
+use Rattle.version_pool.specs.Machine.{Mark, MachinePin, MachineState, Event, Steps, loads, pins, unpins, claims, puts, announces, notes_one, learns, Runs, stays, goes, IsUnpinned, later_of, start, without_at}
 use Rattle.version_pool.specs.Soundness.{IsSound, Rises}
 
 module _ {A : Type 0} where
@@ -36,7 +36,7 @@ some_same a b e = cc
 later_below : (a b : Mark) (n : ℕ) → a.number ≤ n → b.number ≤ n → (later_of a b).number ≤ n
 later_below a b n one two = grind arith
 
-pub kept : (s : State) (e : Event) (t : State) → Steps s e t → IsSound s → IsSound t
+pub kept : (s : MachineState) (e : Event) (t : MachineState) → Steps s e t → IsSound s → IsSound t
 kept _ _ _ (loads s r low) h = record {
   room = h.room;
   claimed = h.claimed;
@@ -53,14 +53,14 @@ kept _ _ _ (pins s r m at free low) h = record {
     c.0,
     (λ i p there. ⊎_elim
         (λ old. c.1 i p old)
-        (λ new. λ same. let slots = ap (λ (q : Pin). q.slot) new in free (is ∙ ap (λ (n : ℕ). Some n) (sym same ∙ sym slots)))
+        (λ new. λ same. let slots = ap (λ (q : MachinePin). q.slot) new in free (is ∙ ap (λ (n : ℕ). Some n) (sym same ∙ sym slots)))
         (get_snoc s.pins _ p i there)),
     c.2,
     c.3,
   );
   pinned = λ i p there. ⊎_elim
       (λ old. h.pinned i p old)
-      (λ new. subst (λ (q : Pin). (q.slot < length s.contents) × (q.number ≡ get_or s.contents q.slot 0)) new (low, refl))
+      (λ new. subst (λ (q : MachinePin). (q.slot < length s.contents) × (q.number ≡ get_or s.contents q.slot 0)) new (low, refl))
       (get_snoc s.pins _ p i there);
   announced = h.announced;
   ready = h.ready;
@@ -141,7 +141,7 @@ kept _ _ _ (learns s i r m k there seen) h = record {
   notes = λ j x at. let o = get_remove s.notes i j x at in h.notes o.0 x o.1;
 }
 
-pub kept_all : (s : State) (es : List Event) (t : State) → Runs s es t → IsSound s → IsSound t
+pub kept_all : (s : MachineState) (es : List Event) (t : MachineState) → Runs s es t → IsSound s → IsSound t
 kept_all _ _ _ (stays s) h = h
 kept_all _ _ _ (goes s t u e es step rest) h = kept_all t es u rest (kept s e t step h)
 
@@ -163,7 +163,7 @@ starts lo slots readers two =
       notes = λ i m bad. absurd (none_some m bad);
     }
 
-pub law_sound : (lo slots readers : ℕ) (events : List Event) (s : State) → 2 ≤ slots → Runs (start lo slots readers) events s → IsSound s
+pub law_sound : (lo slots readers : ℕ) (events : List Event) (s : MachineState) → 2 ≤ slots → Runs (start lo slots readers) events s → IsSound s
 law_sound lo slots readers events s two runs = kept_all (start lo slots readers) events s runs (starts lo slots readers two)
 
 get_here : {A : Type 0} (l : List A) (i : ℕ) (a : A) → i < length l → slice_get (set l i a) i ≡ Some a
@@ -196,7 +196,7 @@ raised seen r k new is up q m at = dite (ℕ_discrete q r)
     (new, here, omega arith))
     (λ other. (m, get_else seen r q new other ∙ at, omega arith))
 
-pub rises : (s : State) (e : Event) (t : State) → Steps s e t → IsSound s → Rises s t
+pub rises : (s : MachineState) (e : Event) (t : MachineState) → Steps s e t → IsSound s → Rises s t
 rises _ _ _ (loads s r low) h = record {
   announced = omega arith;
   seen = λ q m at. dite (ℕ_discrete q r)
@@ -211,15 +211,15 @@ rises _ _ _ (announces s m is) h = record { announced = (let n = (h.ready m is).
 rises _ _ _ (notes_one s) h = record { announced = omega arith; seen = λ q k there. (k, there, omega arith) }
 rises _ _ _ (learns s i r m k there seen) h = record { announced = omega arith; seen = raised s.seen r k (later_of k m) seen (later_above k m) }
 
-rises_on : (s t u : State) → Rises s t → Rises t u → Rises s u
+rises_on : (s t u : MachineState) → Rises s t → Rises t u → Rises s u
 rises_on s t u one two = record {
   announced = let a = one.announced in let b = two.announced in omega arith;
   seen = λ r m at. let x = one.seen r m at in let y = two.seen r x.0 x.1 in let a = x.2 in let b = y.2 in (y.0, y.1, omega arith);
 }
 
-pub rises_all : (s : State) (es : List Event) (t : State) → Runs s es t → IsSound s → Rises s t
+pub rises_all : (s : MachineState) (es : List Event) (t : MachineState) → Runs s es t → IsSound s → Rises s t
 rises_all _ _ _ (stays s) h = record { announced = omega arith; seen = λ r m at. (m, at, omega arith) }
 rises_all _ _ _ (goes s t u e es step rest) h = rises_on s t u (rises s e t step h) (rises_all t es u rest (kept s e t step h))
 
-pub law_rises : (lo slots readers : ℕ) (first later : List Event) (s t : State) → 2 ≤ slots → Runs (start lo slots readers) first s → Runs s later t → Rises s t
+pub law_rises : (lo slots readers : ℕ) (first later : List Event) (s t : MachineState) → 2 ≤ slots → Runs (start lo slots readers) first s → Runs s later t → Rises s t
 law_rises lo slots readers first later s t two one rest = rises_all s later t rest (law_sound lo slots readers first s two one)

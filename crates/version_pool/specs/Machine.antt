@@ -8,7 +8,7 @@ pub record Mark : Type 0 where
 
 -- A reader's pin on a slot, with the number of the slot's content. It is granted where that is the
 -- number which the reader came for.
-pub record Pin : Type 0 where
+pub record MachinePin : Type 0 where
   pub reader : ℕ
   pub slot : ℕ
   pub number : ℕ
@@ -16,10 +16,10 @@ pub record Pin : Type 0 where
 
 -- The number of each slot's content, the slot that is claimed, the pins, the mark that is announced,
 -- the mark that is put and not yet announced, the mark that each reader has seen, and the notes.
-pub record State : Type 0 where
+pub record MachineState : Type 0 where
   pub contents : List ℕ
   pub claimed : Option ℕ
-  pub pins : List Pin
+  pub pins : List MachinePin
   pub announced : Mark
   pub ready : Option Mark
   pub seen : List Mark
@@ -40,7 +40,7 @@ pub data Event : Type 0 where
   learn : ℕ → ℕ → Event
 
 -- number lo in each slot, announced in slot 0 and seen by each reader, and nothing else
-abbrev pub start : ℕ → ℕ → ℕ → State
+abbrev pub start : ℕ → ℕ → ℕ → MachineState
 start lo slots readers = record {
   contents = replicate slots lo;
   claimed = None;
@@ -56,8 +56,8 @@ abbrev pub later_of : Mark → Mark → Mark
 later_of a b = if nat_lt a.number b.number then b else a
 
 -- nobody pins the slot
-abbrev pub IsUnpinned : State → ℕ → Type 0
-IsUnpinned s slot = (i : ℕ) (p : Pin) → slice_get s.pins i ≡ Some p → p.slot ≢ slot
+abbrev pub IsUnpinned : MachineState → ℕ → Type 0
+IsUnpinned s slot = (i : ℕ) (p : MachinePin) → slice_get s.pins i ≡ Some p → p.slot ≢ slot
 
 -- the list without the entry at this place
 abbrev pub without_at : {A : Type 0} → List A → ℕ → List A
@@ -66,7 +66,7 @@ without_at (x ∷ xs) zero = xs
 without_at (x ∷ xs) (suc i) = x ∷ without_at xs i
 
 -- the pin that the reader r gets on the slot of this mark
-abbrev pub pin_of : State → ℕ → Mark → Pin
+abbrev pub pin_of : MachineState → ℕ → Mark → MachinePin
 pin_of s r m = record {
   reader = r;
   slot = m.slot;
@@ -75,35 +75,35 @@ pin_of s r m = record {
 }
 
 -- the mark that the next version gets in this slot
-abbrev pub next_mark : State → ℕ → Mark
+abbrev pub next_mark : MachineState → ℕ → Mark
 next_mark s slot = record { number = s.announced.number + 1; slot = slot }
 
 -- The event is allowed in the first state, and leads to the second.
-pub data Steps : State → Event → State → Type 0 where
-  loads : (s : State) (r : ℕ) → r < length s.seen
+pub data Steps : MachineState → Event → MachineState → Type 0 where
+  loads : (s : MachineState) (r : ℕ) → r < length s.seen
       → Steps s (load r) (record s { seen = slice_set s.seen r s.announced })
-  pins : (s : State) (r : ℕ) (m : Mark) → slice_get s.seen r ≡ Some m → s.claimed ≢ Some m.slot
+  pins : (s : MachineState) (r : ℕ) (m : Mark) → slice_get s.seen r ≡ Some m → s.claimed ≢ Some m.slot
       → m.slot < length s.contents
       → Steps s (pin r) (record s { pins = s.pins ++ pin_of s r m ∷ [] })
-  unpins : (s : State) (i : ℕ) → i < length s.pins
+  unpins : (s : MachineState) (i : ℕ) → i < length s.pins
       → Steps s (unpin i) (record s { pins = without_at s.pins i })
-  claims : (s : State) (slot : ℕ) → slot < length s.contents → s.claimed ≡ None → s.ready ≡ None → IsUnpinned s slot
-      → slot ≢ s.announced.slot
+  claims : (s : MachineState) (slot : ℕ) → slot < length s.contents → s.claimed ≡ None → s.ready ≡ None
+      → IsUnpinned s slot → slot ≢ s.announced.slot
       → Steps s (claim slot) (record s { claimed = Some slot })
-  puts : (s : State) (slot : ℕ) → s.claimed ≡ Some slot
+  puts : (s : MachineState) (slot : ℕ) → s.claimed ≡ Some slot
       → Steps s put (record s {
         contents = slice_set s.contents slot (s.announced.number + 1);
         claimed = None;
         ready = Some (next_mark s slot);
       })
-  announces : (s : State) (m : Mark) → s.ready ≡ Some m
+  announces : (s : MachineState) (m : Mark) → s.ready ≡ Some m
       → Steps s announce (record s { announced = m; ready = None })
-  notes_one : (s : State)
+  notes_one : (s : MachineState)
       → Steps s note (record s { notes = s.notes ++ s.announced ∷ [] })
-  learns : (s : State) (i r : ℕ) (m k : Mark) → slice_get s.notes i ≡ Some m → slice_get s.seen r ≡ Some k
+  learns : (s : MachineState) (i r : ℕ) (m k : Mark) → slice_get s.notes i ≡ Some m → slice_get s.seen r ≡ Some k
       → Steps s (learn i r) (record s { notes = without_at s.notes i; seen = slice_set s.seen r (later_of k m) })
 
 -- the events, each allowed in its turn, lead from the first state to the second
-pub data Runs : State → List Event → State → Type 0 where
-  stays : (s : State) → Runs s [] s
-  goes : (s t u : State) (e : Event) (es : List Event) → Steps s e t → Runs t es u → Runs s (e ∷ es) u
+pub data Runs : MachineState → List Event → MachineState → Type 0 where
+  stays : (s : MachineState) → Runs s [] s
+  goes : (s t u : MachineState) (e : Event) (es : List Event) → Steps s e t → Runs t es u → Runs s (e ∷ es) u

@@ -3,8 +3,8 @@ use Rattle.std.specs.Prelude.{◌≡◌, ◌≢◌, ℕ, ◌+◌, ◌<◌, ◌�
 use Rattle.std.specs.Coded.{Coded, code_by, coded×, coded_ℕ}
 use Rattle.atomic_table.specs.Seated.{TableId, table_id_coded}
 use Rattle.graph_store.specs.Plan.{Plan, plan_code}
-use Rattle.version_face.specs.Seen.{Seen}
-use Rattle.pin_cells.specs.Tallied.{Tally, Rose}
+use Rattle.version_face.specs.Seen.{VersionSeen}
+use Rattle.pin_cells.specs.Tallied.{Tally, RoseByOne}
 use Rattle.version_pool.specs.declared.word.Mark.{Mark}
 
 -- which pool it is, the plan whose versions stand in its slots, and how many slots there are
@@ -56,7 +56,7 @@ pub record IsNoteOf (pool : Pool) (n : Note) : Type 0 where
   pub slots : n.slots ≡ pool.slots
 
 -- the mark that is announced behind another: of the next number, and in another one of the slots
-pub record IsNext (slots : ℕ) (before m : Mark) : Type 0 where
+pub record IsNextMark (slots : ℕ) (before m : Mark) : Type 0 where
   pub number : m.number ≡ before.number + 1
   pub other : m.slot ≢ before.slot
   pub inside : m.slot < slots
@@ -64,12 +64,13 @@ pub record IsNext (slots : ℕ) (before m : Mark) : Type 0 where
 -- A turn was lost at each slot from this one on, but at the announced one, and nothing else of the
 -- tally changed.
 pub record LosesFrom (before now : Tally) (slots announced from : ℕ) : Type 0 where
-  pub rose : (k : ℕ) → from ≤ k → k < slots → k ≢ announced → Rose (slice_index before.lost k) (slice_index now.lost k)
+  pub rose : (k : ℕ) → from ≤ k → k < slots → k ≢ announced
+      → RoseByOne (slice_index before.lost k) (slice_index now.lost k)
   pub others : (k : ℕ) → (k < from) ⊎ (k ≡ announced) → slice_index now.lost k ≡ slice_index before.lost k
   pub other : now.other ≡ before.other
   pub ask : now.ask ≡ before.ask
 
 -- the number of vertices of the version that a publisher keeps
-abbrev pub spare_vertices : Option Seen → ℕ
+abbrev pub spare_vertices : Option VersionSeen → ℕ
 spare_vertices None = 0
 spare_vertices (Some v) = v.graph.vertices

@@ -2,7 +2,7 @@
 
 ghost use Rattle.std.specs.Prelude.{◌≡◌, ◌≢◌, ◌+◌, ◌<◌, IfOk, OnErr, IfSome, IfNone};
 ghost use Rattle.graph_store.specs.Plan.{IsVersionOf};
-ghost use Rattle.version_pool.specs.Pooled.{IsPublisherOf, IsNoteOf, IsNext, LosesFrom};
+ghost use Rattle.version_pool.specs.Pooled.{IsPublisherOf, IsNoteOf, IsNextMark, LosesFrom};
 
 use crate::pool::Pool;
 use crate::word::{Mark, Place, announce, note};
@@ -90,7 +90,7 @@ impl Publisher {
         requires number { A.stamp from.now ≡ self.old.mark.number + 1 }
         requires of_plan { IsVersionOf pool.now.plan (A.stamp from.now) (A.graph from.now) }
         ensures publisher { IsPublisherOf pool.now self.new }
-        ensures announced { IfOk result (λ m. IsNext pool.now.slots self.old.mark m × (self.new.mark ≡ m)) }
+        ensures announced { IfOk result (λ m. IsNextMark pool.now.slots self.old.mark m × (self.new.mark ≡ m)) }
         ensures above { IfOk result
             (λ m. LosesFrom tally.old tally.new pool.now.slots self.old.mark.slot (m.slot + 1)) }
         ensures unchanged { OnErr result (self.new ≡ self.old) }

@@ -49,11 +49,11 @@ pub struct Held<'a> {
 }
 
 impl<'a> Model for Held<'a> {
-    ghost use Rattle.version_face.specs.Seen.{Seen, seen_code};
+    ghost use Rattle.version_face.specs.Seen.{VersionSeen, version_seen_code};
 
-    ghost Value = { Seen };
+    ghost Value = { VersionSeen };
 
-    ghost coded = { seen_code };
+    ghost coded = { version_seen_code };
 
     ghost view = { λ h. h.pin.version };
 }

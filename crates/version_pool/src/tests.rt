@@ -46,6 +46,10 @@ impl Answers for Pair {
         self.graph.weight(u, v)
     }
 
+    fn copy_graph(&self, other: &mut Graph) {
+        self.graph.copy_into(other);
+    }
+
     #[tactic(auto, using(crate::proofs::Pairs::itself, crate::proofs::Pairs::edge, crate::proofs::Pairs::no_edge))]
     fn entry(&self, x: u32, y: u32) -> Option<Entry> {
         if x == y {

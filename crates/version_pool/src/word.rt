@@ -5,8 +5,12 @@ ghost use Rattle.apsp_model.specs.declared.TheConstants.{MOST_UPDATES, MOST_SLOT
 ghost use Rattle.version_pool.specs.Marks.{mark, view, new_reader, new_note, learned};
 ghost use Rattle.version_pool.specs.declared.word.Role.TheVariants.{Publisher, Reader, Note, Spent};
 
+use apsp_model::MOST_SLOTS;
 use atomic_table::{Join, Play, Seat, Shared, Split, Table, TableRule};
 use std::alloc::{AllocError, Global};
+
+/// The word has room for a slot below its number.
+const WORD_SLOTS: u64 = MOST_SLOTS as u64;
 
 /// A number with the slot in which its version stands.
 #[derive(Clone, Copy, PartialEq, Eq, Debug)]
@@ -113,7 +117,7 @@ pub fn board(alloc: Global, slots: u32, lo: u64) -> Result<(Board, Place), Alloc
         slots: slots as u64,
         lo,
     };
-    let made = Table::of_words(alloc, &[lo * 64], &opening);
+    let made = Table::of_words(alloc, &[lo * WORD_SLOTS], &opening);
     let Opening { slots: _, lo: _ } = opening;
     made
 }
@@ -129,8 +133,8 @@ pub fn look(word: &Word, seat: &mut Place) -> Mark
 {
     let found = word.load::<Looking>(seat, 0);
     Mark {
-        number: found / 64,
-        slot: (found % 64) as u32,
+        number: found / WORD_SLOTS,
+        slot: (found % WORD_SLOTS) as u32,
     }
 }
 
@@ -140,11 +144,11 @@ pub fn announce(word: &Word, seat: &mut Place, next: Mark)
     requires publisher { seat.old.me.0.role ≡ Publisher }
     requires next { next.number ≡ seat.old.me.0.mark.number + 1 }
     requires small { next.number ≤ MOST_UPDATES }
-    requires slot { (next.slot < seat.old.me.0.slots) × (next.slot < 64) }
+    requires slot { (next.slot < seat.old.me.0.slots) × (next.slot < MOST_SLOTS) }
     ensures table { seat.new.table_id ≡ seat.old.table_id }
     ensures announced { seat.new.me ≡ (view Publisher next seat.old.me.0.looks seat.old.me.0.slots, seat.old.me.1) }
 {
-    word.store::<Storing>(seat, 0, next.number * 64 + next.slot as u64);
+    word.store::<Storing>(seat, 0, next.number * WORD_SLOTS + next.slot as u64);
 }
 
 /// A reader's seat, from the publisher's.
