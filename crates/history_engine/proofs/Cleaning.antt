@@ -6,7 +6,7 @@ use Rattle.std.proofs.lemmas.Bool.{cases_Bool, cases_eq, cases_lt, or_cases, or_
 use Rattle.std.proofs.lemmas.Nat.{pow-add, pow_pos, one_shl}
 use Rattle.std.proofs.lemmas.Option.{slice_get_within, none-some, same_Some}
 use Rattle.apsp_model.specs.Command.{latest_at, cleaned, cleaned_from}
-use Rattle.history_engine.specs.Times.{IsLatest, left_from}
+use Rattle.history_engine.specs.Times.{IsLatestUpdate, left_from}
 
 any_from : (vs : List ℕ) (k s v : ℕ) → k ≤ s → slice_get vs s ≡ Some v → list_any (λ later. later == v) (drop k vs) ≡ true
 any_from [] k s v l at = absurd (none-some v at)
@@ -25,7 +25,7 @@ any_is (x ∷ vs) zero v h = elim (or_cases (x == v) (list_any (λ later. later 
 any_is (x ∷ vs) (suc k) v h = let r = any_is vs k v h in (suc r.0, (let l : k ≤ r.0 = r.1 in omega arith), r.2)
 
 -- the vertex of time s + 1, where that is the latest update at its vertex
-pub latest_here : (vs : List ℕ) (s v : ℕ) → slice_get vs s ≡ Some v → IsLatest vs v (s + 1) → latest_at vs (s + 1) ≡ Some v
+pub latest_here : (vs : List ℕ) (s v : ℕ) → slice_get vs s ≡ Some v → IsLatestUpdate vs v (s + 1) → latest_at vs (s + 1) ≡ Some v
 latest_here vs s v at l =
     let F : ℕ → Type 0 = λ t. latest_at vs t ≡ Some v in
     let G : Option ℕ → Type 0 = λ o. option_and_then (λ w. if list_any (λ later. later == w) (drop (suc s) vs) then None else Some w) o ≡ Some v in
@@ -39,7 +39,7 @@ latest_here vs s v at l =
     plus_one n = omega arith
 
 -- nothing, where another update is the latest one at its vertex
-pub latest_elsewhere : (vs : List ℕ) (s v t : ℕ) → slice_get vs s ≡ Some v → IsLatest vs v t → t ≢ s + 1 → latest_at vs (s + 1) ≡ None
+pub latest_elsewhere : (vs : List ℕ) (s v t : ℕ) → slice_get vs s ≡ Some v → IsLatestUpdate vs v t → t ≢ s + 1 → latest_at vs (s + 1) ≡ None
 latest_elsewhere vs s v t at l other =
     let F : ℕ → Type 0 = λ t. latest_at vs t ≡ None in
     let G : Option ℕ → Type 0 = λ o. option_and_then (λ w. if list_any (λ later. later == w) (drop (suc s) vs) then None else Some w) o ≡ None in
@@ -49,7 +49,7 @@ latest_elsewhere vs s v t at l other =
     plus_one : (n : ℕ) → suc n ≡ n + 1
     plus_one n = omega arith
 
-    found : (t : ℕ) → IsLatest vs v t → t ≢ s + 1 → list_any (λ later. later == v) (drop (suc s) vs) ≡ true
+    found : (t : ℕ) → IsLatestUpdate vs v t → t ≢ s + 1 → list_any (λ later. later == v) (drop (suc s) vs) ≡ true
     found zero l other = absurd (l.none_later s (omega arith) at)
     found (suc r) l other = elim (cases_lt s (suc r)) [
       | inl before ↦ elim (cases_eq s r) [
@@ -78,7 +78,7 @@ length_more [] w = refl
 length_more (x ∷ vs) w = let r : length (vs ++ w ∷ []) ≡ length vs + 1 = length_more vs w in omega arith
 
 -- of the vertex of the update
-pub latest_now : (vs : List ℕ) (v : ℕ) → IsLatest (vs ++ v ∷ []) v (length vs + 1)
+pub latest_now : (vs : List ℕ) (v : ℕ) → IsLatestUpdate (vs ++ v ∷ []) v (length vs + 1)
 latest_now vs v = record {
   made = let l : length (vs ++ v ∷ []) ≡ length vs + 1 = length_more vs v in omega arith;
   here = λ s e. subst (λ k. slice_get (vs ++ v ∷ []) k ≡ Some v) (omega (arith, e)) (get_new vs v);
@@ -86,7 +86,7 @@ latest_now vs v = record {
 }
 
 -- of every other vertex
-pub latest_still : (vs : List ℕ) (w v t : ℕ) → v ≢ w → IsLatest vs v t → IsLatest (vs ++ w ∷ []) v t
+pub latest_still : (vs : List ℕ) (w v t : ℕ) → v ≢ w → IsLatestUpdate vs v t → IsLatestUpdate (vs ++ w ∷ []) v t
 latest_still vs w v t apart l = record {
   made = let a : t ≤ length vs = l.made in let long : length (vs ++ w ∷ []) ≡ length vs + 1 = length_more vs w in omega arith;
   here = λ s e. let a : t ≤ length vs = l.made in get_old vs w s (omega arith) ∙ l.here s e;
@@ -101,7 +101,7 @@ latest_still vs w v t apart l = record {
 }
 
 -- before the first update
-pub latest_none : (v : ℕ) → IsLatest [] v 0
+pub latest_none : (v : ℕ) → IsLatestUpdate [] v 0
 latest_none v = record { made = omega arith; here = λ s e. absurd (omega (arith, e)); none_later = λ s l at. none-some v at }
 
 -- ---- the powers of 2 from one on
@@ -154,7 +154,7 @@ left_end vs i l = all_none (length vs - i) i l
 -- ---- what the update at v makes of an earlier update at w
 
 -- it is the latest one there still
-pub cleaned_here : (vs : List ℕ) (v w place n : ℕ) → slice_get vs place ≡ Some w → w ≢ v → IsLatest vs w (place + 1) → n ≡ place + 1 → latest_at (vs ++ v ∷ []) n ≡ Some w
+pub cleaned_here : (vs : List ℕ) (v w place n : ℕ) → slice_get vs place ≡ Some w → w ≢ v → IsLatestUpdate vs w (place + 1) → n ≡ place + 1 → latest_at (vs ++ v ∷ []) n ≡ Some w
 cleaned_here vs v w place n at apart l is =
     subst (λ k. latest_at (vs ++ v ∷ []) k ≡ Some w) (sym is)
     (latest_here (vs ++ v ∷ []) place w (get_old vs v place (slice_get_within vs place w at) ∙ at) (latest_still vs v w (place + 1) apart l))
@@ -167,7 +167,7 @@ cleaned_same vs v place n at is =
     (latest_elsewhere (vs ++ v ∷ []) place v (length vs + 1) (get_old vs v place within ∙ at) (latest_now vs v) (λ e. omega (arith, e, within)))
 
 -- it is not the latest one there
-pub cleaned_earlier : (vs : List ℕ) (v w place t n : ℕ) → slice_get vs place ≡ Some w → w ≢ v → IsLatest vs w t → t ≢ place + 1 → n ≡ place + 1 → latest_at (vs ++ v ∷ []) n ≡ None
+pub cleaned_earlier : (vs : List ℕ) (v w place t n : ℕ) → slice_get vs place ≡ Some w → w ≢ v → IsLatestUpdate vs w t → t ≢ place + 1 → n ≡ place + 1 → latest_at (vs ++ v ∷ []) n ≡ None
 cleaned_earlier vs v w place t n at apart l other is =
     subst (λ k. latest_at (vs ++ v ∷ []) k ≡ None) (sym is)
     (latest_elsewhere (vs ++ v ∷ []) place w t (get_old vs v place (slice_get_within vs place w at) ∙ at) (latest_still vs v w t apart l) other)

@@ -12,7 +12,7 @@ use Rattle.apsp_model.specs.Kept.{Moment, IsWithEdge, opening, after_star, after
 use Rattle.apsp_model.specs.Counts.{CountIs, RemovedIs, PathsAre, HistoricalAre, LatestTurnoverIs, Counts, CountsAre}
 use Rattle.apsp_model.proofs.Simples.{contained_or_not}
 use Rattle.apsp_model.proofs.Stars.{weight-star_of}
-use Rattle.fixup_math.proofs.Births.{IsBook, Left, formed_is, book_after, book_of}
+use Rattle.fixup_math.proofs.Births.{StateBefore, Left, formed_is, book_after, book_of}
 use Rattle.apsp_model.proofs.Members.{in_cons, in_nil, head_in, tail_in}
 use Rattle.apsp_model.proofs.Counting.{count_unique, count_same, count_none, count_more, count_decides}
 use Rattle.apsp_model.proofs.Deciding.{Made, steps_from, kept_test, historical_test, vertex_test, birth_by}
@@ -67,14 +67,14 @@ members (q ∷ ps) =
     ]
 
 -- a moment whose kept lists are counted, and where it is decided what is historical
-record IsKnown (m : Moment) : Type 0 where
+record IsDecidedMoment (m : Moment) : Type 0 where
   kept : (k : ℕ) × CountIs m.kept k
   historical : (p : List ℕ) → Decided (m.historical p)
 
-kept_or_not : (m : Moment) → IsKnown m → (p : List ℕ) → Decided (m.kept p)
+kept_or_not : (m : Moment) → IsDecidedMoment m → (p : List ℕ) → Decided (m.kept p)
 kept_or_not m known p = count_decides m.kept known.kept.0 known.kept.1 p
 
-counted : (m : Moment) → IsKnown m → (P : List ℕ → Type 0) → ((p : List ℕ) → Decided (P p)) → (k : ℕ) × CountIs (λ p. m.kept p × P p) k
+counted : (m : Moment) → IsDecidedMoment m → (P : List ℕ → Type 0) → ((p : List ℕ) → Decided (P p)) → (k : ℕ) × CountIs (λ p. m.kept p × P p) k
 counted m known P decided =
     let all : CountIs m.kept known.kept.0 = known.kept.1 in
     let passing : (k : ℕ) × CountIs (Contains (filter test all.lists)) k = members (filter test all.lists) in (
@@ -88,7 +88,7 @@ counted m known P decided =
     test : List ℕ → Bool
     test p = (test_of (P p) (decided p)).0
 
-paths : (m : Moment) → IsKnown m → (k : ℕ) × PathsAre m k
+paths : (m : Moment) → IsDecidedMoment m → (k : ℕ) × PathsAre m k
 paths m known = counted m known IsWithEdge long_or_not
 
 -- ---- the moments after steps are known
@@ -104,8 +104,8 @@ made_is (Star_step v g ∷ steps) = ap (λ rest. Star_step v g ∷ rest) (made_i
 after_made : (F : Moment → Type 0) (n : ℕ) (steps : List Step) → F (after n (made_of steps)) → F (after_steps (opening n) steps)
 after_made F n steps h = subst (λ (made : List Step). F (after_steps (opening n) made)) (made_is steps) h
 
-known_after_steps : (n : ℕ) (steps : List Step) → IsKnown (after_steps (opening n) steps)
-known_after_steps n steps = after_made IsKnown n steps (record { kept = (kept.0, kept_count); historical = λ p. by_test (historical_test n ms p) ((after n ms).historical p) (historical_test_is n ms p) })
+known_after_steps : (n : ℕ) (steps : List Step) → IsDecidedMoment (after_steps (opening n) steps)
+known_after_steps n steps = after_made IsDecidedMoment n steps (record { kept = (kept.0, kept_count); historical = λ p. by_test (historical_test n ms p) ((after n ms).historical p) (historical_test_is n ms p) })
   where
     ms : List Made
     ms = made_of steps
@@ -116,8 +116,8 @@ known_after_steps n steps = after_made IsKnown n steps (record { kept = (kept.0,
     kept_count : CountIs (after n ms).kept kept.0
     kept_count = count_same (Contains (found n ms (λ p. true))) (after n ms).kept kept.0 (λ p. (λ c. ((found_is n ms (λ q. true) p).0 c).0, λ h. (found_is n ms (λ q. true) p).1 (h, refl))) kept.1
 
-known_later : (n : ℕ) (steps made : List Step) → IsKnown (after_steps (after_steps (opening n) steps) made)
-known_later n steps made = subst IsKnown (after_steps-append (opening n) made steps) (known_after_steps n (made ++ steps))
+known_later : (n : ℕ) (steps made : List Step) → IsDecidedMoment (after_steps (after_steps (opening n) steps) made)
+known_later n steps made = subst IsDecidedMoment (after_steps-append (opening n) made steps) (known_after_steps n (made ++ steps))
 
 -- ---- what steps behind one another form and remove
 
@@ -134,7 +134,7 @@ module _ (n : ℕ) (before : List Step) where
   abbrev m : Moment
   m = after_steps (opening n) before
 
-  turned_more : (made : List Step) (v : ℕ) (gb g : Graph) (same_count : gb.vertices ≡ g.vertices) (same_away : (a b : ℕ) → touches v (a, b) ≡ false → weight_at gb a b ≡ weight_at g a b) → IsBook gb (after_steps m made) → Turned m made → Turned m (Star_step v g ∷ made)
+  turned_more : (made : List Step) (v : ℕ) (gb g : Graph) (same_count : gb.vertices ≡ g.vertices) (same_away : (a b : ℕ) → touches v (a, b) ≡ false → weight_at gb a b ≡ weight_at g a b) → StateBefore gb (after_steps m made) → Turned m made → Turned m (Star_step v g ∷ made)
   turned_more made v gb g same_count same_away book t = record {
     formed = t.formed + formed.0;
     removed = t.removed + removed.0;
@@ -149,7 +149,7 @@ module _ (n : ℕ) (before : List Step) where
       here : Moment
       here = after_steps m made
 
-      known : IsKnown here
+      known : IsDecidedMoment here
       known = known_later n before made
 
       removed : (k : ℕ) × CountIs (λ p. here.kept p × IsWithEdge p × Contains p v) k
@@ -166,7 +166,7 @@ module _ (n : ℕ) (before : List Step) where
       formed : (k : ℕ) × CountIs (λ p. (after_star here v g).kept p × (Left here v gb g same_count same_away book p → ⊥)) k
       formed = counted (after_star here v g) (known_later n before (Star_step v g ∷ made)) (λ p. Left here v gb g same_count same_away book p → ⊥) new_or_not
 
-  turned_cleaning : (vs : List ℕ) (g : Graph) (made : List Step) → IsBook g (after_steps m made) → Turned m made → Turned m (with_cleaning vs g made)
+  turned_cleaning : (vs : List ℕ) (g : Graph) (made : List Step) → StateBefore g (after_steps m made) → Turned m made → Turned m (with_cleaning vs g made)
   turned_cleaning [] g made book t = t
   turned_cleaning (v ∷ vs) g made book t = turned_cleaning vs g (Star_step v g ∷ made) (book_after (after_steps m made) v g g refl (λ _ _ _. refl) book) (turned_more made v g g refl (λ _ _ _. refl) book t)
 
@@ -183,7 +183,7 @@ turned_latest n smooth s earlier = turned_cleaning n steps (if smooth then clean
     g : Graph
     g = graph_of n (Update s ∷ earlier)
 
-    book : IsBook (graph_of n earlier) (moment_of n smooth earlier)
+    book : StateBefore (graph_of n earlier) (moment_of n smooth earlier)
     book = book_of n smooth earlier
 
     same_away : (a b : ℕ) → touches s.vertex (a, b) ≡ false → weight_at (graph_of n earlier) a b ≡ weight_at g a b
@@ -225,7 +225,7 @@ counts_exist n smooth commands = (
     now : Moment
     now = moment_of n smooth commands
 
-    known : IsKnown now
+    known : IsDecidedMoment now
     known = known_after_steps n (steps_of n smooth commands)
 
     all : (k : ℕ) × PathsAre now k

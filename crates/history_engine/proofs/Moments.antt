@@ -8,10 +8,10 @@ use Rattle.apsp_model.specs.Local.{HistStep, IsLocal}
 use Rattle.apsp_model.specs.Command.{Command, Update, Step, Star_step, cleaned, with_cleaning, with_update, steps_of, graph_of, vertices_of}
 use Rattle.apsp_model.specs.Kept.{Moment, opening, after_star, after_steps, moment_of, IsWithEdge, BirthStep}
 use Rattle.apsp_model.specs.Counts.{CountIs, RemovedIs, PathsAre, TurnoverIs, LatestTurnoverIs}
-use Rattle.history_engine.specs.Seen.{Seen, moment_seen, IsSame}
+use Rattle.history_engine.specs.Seen.{EngineSeen, moment_seen, SayTheSame}
 use Rattle.history_engine.specs.Advance.{Advance, Stands, AdvanceByStar, steps_of_star}
 
-pub same_turned : (m n : Moment) → IsSame m n → IsSame n m
+pub same_turned : (m n : Moment) → SayTheSame m n → SayTheSame n m
 same_turned m n s = record {
   steps = sym s.steps;
   historical = λ p. ((s.historical p).1, (s.historical p).0);
@@ -19,7 +19,7 @@ same_turned m n s = record {
   birth = λ p b. ((s.birth p b).1, (s.birth p b).0);
 }
 
-pub same_chain : (m n k : Moment) → IsSame m n → IsSame n k → IsSame m k
+pub same_chain : (m n k : Moment) → SayTheSame m n → SayTheSame n k → SayTheSame m k
 same_chain m n k s t = record {
   steps = s.steps ∙ t.steps;
   historical = λ p. (λ h. (t.historical p).0 ((s.historical p).0 h), λ h. (s.historical p).1 ((t.historical p).1 h));
@@ -28,7 +28,7 @@ same_chain m n k s t = record {
 }
 
 -- one way of a star step; the other is the same with the moments exchanged
-historical_on : (m n : Moment) (v : ℕ) (g : Graph) → IsSame m n → (p : List ℕ) → HistStep m.historical v g p → HistStep n.historical v g p
+historical_on : (m n : Moment) (v : ℕ) (g : Graph) → SayTheSame m n → (p : List ℕ) → HistStep m.historical v g p → HistStep n.historical v g p
 historical_on m n v g s p h = elim h [
   | inl single ↦ inl single
   | inr rest ↦ elim rest [
@@ -37,16 +37,16 @@ historical_on m n v g s p h = elim h [
   ]
 ]
 
-local_on : (m n : Moment) (v : ℕ) (g : Graph) → IsSame m n → (p : List ℕ) → IsLocal g (HistStep m.historical v g) p → IsLocal g (HistStep n.historical v g) p
+local_on : (m n : Moment) (v : ℕ) (g : Graph) → SayTheSame m n → (p : List ℕ) → IsLocal g (HistStep m.historical v g) p → IsLocal g (HistStep n.historical v g) p
 local_on m n v g s p l = record { simple = l.simple; walk = l.walk; parts = λ q part. historical_on m n v g s q (l.parts q part) }
 
-birth_on : (m n : Moment) (v k j : ℕ) (s : IsSame m n) → k ≡ j → (p : List ℕ) (b : ℕ) → BirthStep m v k p b → BirthStep n v j p b
+birth_on : (m n : Moment) (v k j : ℕ) (s : SayTheSame m n) → k ≡ j → (p : List ℕ) (b : ℕ) → BirthStep m v k p b → BirthStep n v j p b
 birth_on m n v k j s e p b h = elim h [
   | inl old ↦ inl (((s.kept p).0 old.0.0, old.0.1), (s.birth p b).0 old.1)
   | inr new ↦ inr (λ stays. new.0 ((s.kept p).1 stays.0, stays.1), new.1 ∙ e)
 ]
 
-star_birth_on : (m n : Moment) (v : ℕ) (g : Graph) → IsSame m n → (p : List ℕ) (b : ℕ) → (after_star m v g).birth p b → (after_star n v g).birth p b
+star_birth_on : (m n : Moment) (v : ℕ) (g : Graph) → SayTheSame m n → (p : List ℕ) (b : ℕ) → (after_star m v g).birth p b → (after_star n v g).birth p b
 star_birth_on m n v g s p b h = (
   local_on m n v g s p h.0,
   elim h.1 [
@@ -55,9 +55,9 @@ star_birth_on m n v g s p b h = (
   ],
 )
 
-pub star_on : (m n : Moment) (v : ℕ) (g : Graph) → IsSame m n → IsSame (after_star m v g) (after_star n v g)
+pub star_on : (m n : Moment) (v : ℕ) (g : Graph) → SayTheSame m n → SayTheSame (after_star m v g) (after_star n v g)
 star_on m n v g s =
-    let back : IsSame n m = same_turned m n s in
+    let back : SayTheSame n m = same_turned m n s in
     record {
       steps = ap (λ k. k + 1) s.steps;
       historical = λ p. (historical_on m n v g s p, historical_on n m v g back p);
@@ -65,7 +65,7 @@ star_on m n v g s =
       birth = λ p b. (star_birth_on m n v g s p b, star_birth_on n m v g back p b);
     }
 
-pub steps_on : (m n : Moment) (steps : List Step) → IsSame m n → IsSame (after_steps m steps) (after_steps n steps)
+pub steps_on : (m n : Moment) (steps : List Step) → SayTheSame m n → SayTheSame (after_steps m steps) (after_steps n steps)
 steps_on m n [] s = s
 steps_on m n (Star_step v g ∷ steps) s = star_on (after_steps m steps) (after_steps n steps) v g (steps_on m n steps s)
 
@@ -74,13 +74,13 @@ steps_on m n (Star_step v g ∷ steps) s = star_on (after_steps m steps) (after_
 count_on : (P Q : List ℕ → Type 0) (k : ℕ) → ((p : List ℕ) → P p ↔ Q p) → CountIs P k → CountIs Q k
 count_on P Q k e c = record { lists = c.lists; once = c.once; exact = λ p. (λ h. (e p).0 ((c.exact p).0 h), λ h. (c.exact p).1 ((e p).1 h)); length_is = c.length_is }
 
-paths_on : (m n : Moment) (k : ℕ) → IsSame m n → PathsAre m k → PathsAre n k
+paths_on : (m n : Moment) (k : ℕ) → SayTheSame m n → PathsAre m k → PathsAre n k
 paths_on m n k s c = count_on (λ p. m.kept p × IsWithEdge p) (λ p. n.kept p × IsWithEdge p) k (λ p. (λ h. ((s.kept p).0 h.0, h.1), λ h. ((s.kept p).1 h.0, h.1))) c
 
-removed_on : (m n : Moment) (steps : List Step) (r : ℕ) → IsSame m n → RemovedIs m steps r → RemovedIs n steps r
+removed_on : (m n : Moment) (steps : List Step) (r : ℕ) → SayTheSame m n → RemovedIs m steps r → RemovedIs n steps r
 removed_on m n [] r s h = h
 removed_on m n (Star_step v g ∷ steps) r s h =
-    let t : IsSame (after_steps m steps) (after_steps n steps) = steps_on m n steps s in (
+    let t : SayTheSame (after_steps m steps) (after_steps n steps) = steps_on m n steps s in (
       h.0,
       h.1,
       removed_on m n steps h.0 s h.2,
@@ -89,7 +89,7 @@ removed_on m n (Star_step v g ∷ steps) r s h =
       h.4,
     )
 
-turnover_on : (m n : Moment) (steps : List Step) (f r : ℕ) → IsSame m n → TurnoverIs m steps f r → TurnoverIs n steps f r
+turnover_on : (m n : Moment) (steps : List Step) (f r : ℕ) → SayTheSame m n → TurnoverIs m steps f r → TurnoverIs n steps f r
 turnover_on m n steps f r s t = record {
   before = t.before;
   after = t.after;
@@ -114,7 +114,7 @@ update-append smooth vs g v b = cleaning-append (if smooth then cleaned vs else 
 
 -- ---- the law
 
-advance_stands : (before after : Seen) (s : Star) (commands : List Command) → AdvanceByStar before s after → Stands before commands → Stands after (Update s ∷ commands)
+advance_stands : (before after : EngineSeen) (s : Star) (commands : List Command) → AdvanceByStar before s after → Stands before commands → Stands after (Update s ∷ commands)
 advance_stands before after s commands a stands = record {
   outline = record {
     graph = graph_is;
@@ -162,18 +162,18 @@ advance_stands before after s commands a stands = record {
         subst (λ (k : ℕ). LatestTurnoverIs k after.smooth (Update s ∷ commands) after.formed after.removed) (sym a.opening)
         (subst (λ (b : Bool). LatestTurnoverIs n b (Update s ∷ commands) after.formed after.removed) (sym a.smooth) there)
 
-    says_is : IsSame (moment_seen after) (moment_of after.opening after.smooth (Update s ∷ commands))
+    says_is : SayTheSame (moment_seen after) (moment_of after.opening after.smooth (Update s ∷ commands))
     says_is =
-        let step : IsSame (after_steps (moment_seen before) (steps_of_star before s)) (after_steps (moment_of n before.smooth commands) (steps_of_star before s)) = steps_on (moment_seen before) (moment_of n before.smooth commands) (steps_of_star before s) stands.book.says in
-        let F : List Step → Type 0 = λ steps. IsSame (moment_seen after) (after_steps (moment_of n before.smooth commands) steps) in
-        let G : Moment → Type 0 = λ m. IsSame (moment_seen after) m in
-        let J : List Step → Type 0 = λ steps. IsSame (moment_seen after) (after_steps (opening n) steps) in
-        let one : IsSame (moment_seen after) (after_steps (moment_of n before.smooth commands) (steps_of_star before s)) = same_chain (moment_seen after) (after_steps (moment_seen before) (steps_of_star before s)) (after_steps (moment_of n before.smooth commands) (steps_of_star before s)) a.book.says step in
-        let two : IsSame (moment_seen after) (after_steps (moment_of n before.smooth commands) new) = subst F new_is one in
-        let three : IsSame (moment_seen after) (after_steps (opening n) (new ++ steps_of n before.smooth commands)) = subst G (sym (after_steps-append (opening n) new (steps_of n before.smooth commands))) two in
-        let four : IsSame (moment_seen after) (moment_of n before.smooth (Update s ∷ commands)) = subst J (sym all_is) three in
-        subst (λ (k : ℕ). IsSame (moment_seen after) (moment_of k after.smooth (Update s ∷ commands))) (sym a.opening)
-        (subst (λ (b : Bool). IsSame (moment_seen after) (moment_of n b (Update s ∷ commands))) (sym a.smooth) four)
+        let step : SayTheSame (after_steps (moment_seen before) (steps_of_star before s)) (after_steps (moment_of n before.smooth commands) (steps_of_star before s)) = steps_on (moment_seen before) (moment_of n before.smooth commands) (steps_of_star before s) stands.book.says in
+        let F : List Step → Type 0 = λ steps. SayTheSame (moment_seen after) (after_steps (moment_of n before.smooth commands) steps) in
+        let G : Moment → Type 0 = λ m. SayTheSame (moment_seen after) m in
+        let J : List Step → Type 0 = λ steps. SayTheSame (moment_seen after) (after_steps (opening n) steps) in
+        let one : SayTheSame (moment_seen after) (after_steps (moment_of n before.smooth commands) (steps_of_star before s)) = same_chain (moment_seen after) (after_steps (moment_seen before) (steps_of_star before s)) (after_steps (moment_of n before.smooth commands) (steps_of_star before s)) a.book.says step in
+        let two : SayTheSame (moment_seen after) (after_steps (moment_of n before.smooth commands) new) = subst F new_is one in
+        let three : SayTheSame (moment_seen after) (after_steps (opening n) (new ++ steps_of n before.smooth commands)) = subst G (sym (after_steps-append (opening n) new (steps_of n before.smooth commands))) two in
+        let four : SayTheSame (moment_seen after) (moment_of n before.smooth (Update s ∷ commands)) = subst J (sym all_is) three in
+        subst (λ (k : ℕ). SayTheSame (moment_seen after) (moment_of k after.smooth (Update s ∷ commands))) (sym a.opening)
+        (subst (λ (b : Bool). SayTheSame (moment_seen after) (moment_of n b (Update s ∷ commands))) (sym a.smooth) four)
 
-pub law : (before after : Seen) (command : Command) (commands : List Command) → Advance before command after → Stands before commands → Stands after (command ∷ commands)
+pub law : (before after : EngineSeen) (command : Command) (commands : List Command) → Advance before command after → Stands before commands → Stands after (command ∷ commands)
 law before after (Update s) commands a stands = advance_stands before after s commands a stands

@@ -15,12 +15,12 @@ use Rattle.apsp_model.proofs.Below.{upto_or_above}
 use Rattle.fixup_math.proofs.Births.{least_kept_is_least, none_kept_is_no_walk, book_of}
 use Rattle.apsp_model.proofs.Counting.{count_same}
 use Rattle.fixup_math.specs.Settling.{IsLeastKept as IsFirst}
-use Rattle.path_arena.specs.Arena.{vertex_of, IsLive, path_of, list_of, weight_of, id_cmp, single}
+use Rattle.path_arena.specs.Arena.{vertex_of, IsLive, path_of, list_of, weight_of_id, id_cmp, single}
 use Rattle.path_arena.proofs.Paths.{live_from, path_of_at}
-use Rattle.path_book.specs.Book.{Book, IsBook, IsOpening, IsLeastKept, KeepsNone, kept_path, kept_paths}
+use Rattle.path_book.specs.Book.{Book, IsBook, IsOpeningBook, IsLeastKeptId, KeepsNone, kept_path, kept_paths}
 use Rattle.path_book.proofs.Kept.{kept_at, kept_live, historical_marked, birth_live, live_is_kept, kept_once}
 use Rattle.history_engine.specs.declared.engine.Counts.{Counts}
-use Rattle.history_engine.specs.Seen.{Seen, paths_of, IsSame}
+use Rattle.history_engine.specs.Seen.{EngineSeen, paths_of, SayTheSame}
 use Rattle.history_engine.specs.Lawful.{AreLawful}
 use Rattle.history_engine.specs.Advance.{Stands}
 use Rattle.history_engine.specs.Answers.{AreCounts, numbers}
@@ -30,7 +30,7 @@ use Rattle.history_engine.proofs.Stepping.{to_book, from_book, book_on}
 
 -- ---- a new book
 
-module _ (b : Book) (n : ℕ) (lawful : IsBook b) (opened : IsOpening b n) where
+module _ (b : Book) (n : ℕ) (lawful : IsBook b) (opened : IsOpeningBook b n) where
   inside : (u : ℕ) → u < n → u < b.arena.vertices
   inside u l = omega (arith, l, opened.vertices)
 
@@ -50,7 +50,7 @@ module _ (b : Book) (n : ℕ) (lawful : IsBook b) (opened : IsOpening b n) where
   list_at p h = ap (λ q. q.list) (at_vertex h.0 h.1) ∙ sym h.2
 
   -- it says what there is before any step
-  pub opening_says : IsSame (moment_in 0 (kept_paths b)) (opening n)
+  pub opening_says : SayTheSame (moment_in 0 (kept_paths b)) (opening n)
   opening_says = record {
     steps = refl;
     historical = λ p. (
@@ -81,22 +81,22 @@ module _ (b : Book) (n : ℕ) (lawful : IsBook b) (opened : IsOpening b n) where
   })
 
   -- so a new engine stands for no commands
-  pub new_stands : (e : Seen) → e.opening ≡ n → e.graph ≡ no_edges n → e.vertices ≡ [] → e.steps ≡ 0 → e.formed ≡ 0 → e.removed ≡ 0 → e.spent ≡ false → e.book ≡ b → Stands e []
+  pub new_stands : (e : EngineSeen) → e.opening ≡ n → e.graph ≡ no_edges n → e.vertices ≡ [] → e.steps ≡ 0 → e.formed ≡ 0 → e.removed ≡ 0 → e.spent ≡ false → e.book ≡ b → Stands e []
   new_stands e count graph vertices steps formed removed spent book = record {
     outline = record { graph = graph ∙ ap no_edges (sym count); vertices = vertices; steps = steps; turnover = (formed, removed) };
     not_spent = spent;
     book = record {
       weights = λ k c. opening_weights e.graph k (subst (λ (ps : List KeptPath). Contains ps k) (ap kept_paths book) c);
       once = subst IsOncePerList (sym (ap kept_paths book)) (kept_once b lawful);
-      says = subst (λ (ps : List KeptPath). IsSame (moment_in e.steps ps) (opening e.opening)) (sym (ap kept_paths book))
-          (subst (λ k. IsSame (moment_in k (kept_paths b)) (opening e.opening)) (sym steps) (subst (λ m. IsSame (moment_in 0 (kept_paths b)) (opening m)) (sym count) opening_says));
+      says = subst (λ (ps : List KeptPath). SayTheSame (moment_in e.steps ps) (opening e.opening)) (sym (ap kept_paths book))
+          (subst (λ k. SayTheSame (moment_in k (kept_paths b)) (opening e.opening)) (sym steps) (subst (λ m. SayTheSame (moment_in 0 (kept_paths b)) (opening m)) (sym count) opening_says));
     };
   }
 
 -- ---- the least path of a pair
 
 module _ (b : Book) (g : Graph) (k : ℕ) (lawful : AreLawful g k (kept_paths b)) (x y : ℕ) where
-  weight_is : (id : ℕ) → IsLive b.arena id → weight_of b.arena id ≡ walk_weight g (list_of b.arena id)
+  weight_is : (id : ℕ) → IsLive b.arena id → weight_of_id b.arena id ≡ walk_weight g (list_of b.arena id)
   weight_is id live = lawful.weights (kept_path b id (path_of b.arena id)) (live_is_kept b id live)
 
   walk_between : (id : ℕ) → IsLive b.arena id → first (list_of b.arena id) ≡ Some x → last (list_of b.arena id) ≡ Some y → IsWalkFrom g x y (list_of b.arena id)
@@ -104,7 +104,7 @@ module _ (b : Book) (g : Graph) (k : ℕ) (lawful : AreLawful g k (kept_paths b)
       let local : IsLocal g (IsHistoricalIn (kept_paths b)) (list_of b.arena id) = (lawful.lawful.kept (list_of b.arena id)).0 ((kept_live b (list_of b.arena id)).1 (id, live, refl)) in
       record { walk = local.walk; from = from; to = to }
 
-  first_kept : (id : ℕ) → IsLeastKept b x y id → IsFirst g (IsKeptIn (kept_paths b)) x y (list_of b.arena id)
+  first_kept : (id : ℕ) → IsLeastKeptId b x y id → IsFirst g (IsKeptIn (kept_paths b)) x y (list_of b.arena id)
   first_kept id l = record {
     kept = (kept_live b (list_of b.arena id)).1 (id, l.live, refl);
     walk = walk_between id l.live l.ends.0 l.ends.1;
@@ -122,13 +122,13 @@ module _ (b : Book) (g : Graph) (k : ℕ) (lawful : AreLawful g k (kept_paths b)
           let weights : id_cmp b.arena q id ≡ path_cmp (walk_weight g p) p (walk_weight g (list_of b.arena id)) (list_of b.arena id) = (λ i. path_cmp (both i) (is i) (weight_is id l.live i) (list_of b.arena id)) in
           weights ∙ above
         where
-          both : weight_of b.arena q ≡ walk_weight g p
+          both : weight_of_id b.arena q ≡ walk_weight g p
           both = weight_is q live ∙ ap (walk_weight g) is
 
-  pub least_walk : (id : ℕ) → IsLeastKept b x y id → IsLeast g x y (list_of b.arena id)
+  pub least_walk : (id : ℕ) → IsLeastKeptId b x y id → IsLeast g x y (list_of b.arena id)
   least_walk id l = least_kept_is_least g (moment_in k (kept_paths b)) (to_book g (moment_in k (kept_paths b)) lawful.lawful) x y (list_of b.arena id) (first_kept id l)
 
-  pub least_weight : (id : ℕ) → IsLeastKept b x y id → weight_of b.arena id ≡ walk_weight g (list_of b.arena id)
+  pub least_weight : (id : ℕ) → IsLeastKeptId b x y id → weight_of_id b.arena id ≡ walk_weight g (list_of b.arena id)
   least_weight id l = weight_is id l.live
 
   pub no_walk : KeepsNone b x y → HasNoWalk g x y
@@ -139,7 +139,7 @@ module _ (b : Book) (g : Graph) (k : ℕ) (lawful : AreLawful g k (kept_paths b)
 
 -- ---- counts
 
-pub counts_seen : (b : Book) (e : Seen) (c : Counts) → e.book ≡ b → c.updates ≡ length e.vertices → c.steps ≡ e.steps → c.formed ≡ e.formed → c.removed ≡ e.removed
+pub counts_seen : (b : Book) (e : EngineSeen) (c : Counts) → e.book ≡ b → c.updates ≡ length e.vertices → c.steps ≡ e.steps → c.formed ≡ e.formed → c.removed ≡ e.removed
     → CountIs (λ p. IsKeptIn (kept_paths b) p × IsWithEdge p) c.paths → CountIs (λ p. IsHistoricalIn (kept_paths b) p × IsWithEdge p) c.historical → AreCounts e c
 counts_seen b e c is updates steps formed removed paths historical = record {
   updates = updates;
@@ -152,7 +152,7 @@ counts_seen b e c is updates steps formed removed paths historical = record {
 }
 
 -- of any list of commands that the engine stands for
-pub counts_of : (e : Seen) (c : Counts) → AreCounts e c → (commands : List Command) → Stands e commands → CountsAre e.opening e.smooth commands (numbers c)
+pub counts_of : (e : EngineSeen) (c : Counts) → AreCounts e c → (commands : List Command) → Stands e commands → CountsAre e.opening e.smooth commands (numbers c)
 counts_of e c counts commands s =
     let m = moment_of e.opening e.smooth commands in
     record {
@@ -166,13 +166,13 @@ counts_of e c counts commands s =
 
 -- ---- births
 
-pub birth_for : (e : Seen) (list : List ℕ) (o : Option ℕ) → MatchOption o (IsKeptIn (paths_of e) list → ⊥) (HasBirthIn (paths_of e) list) → (commands : List Command) → Stands e commands → MatchOption o (IsKept e.opening e.smooth commands list → ⊥) (HasBirth e.opening e.smooth commands list)
+pub birth_for : (e : EngineSeen) (list : List ℕ) (o : Option ℕ) → MatchOption o (IsKeptIn (paths_of e) list → ⊥) (HasBirthIn (paths_of e) list) → (commands : List Command) → Stands e commands → MatchOption o (IsKept e.opening e.smooth commands list → ⊥) (HasBirth e.opening e.smooth commands list)
 birth_for e list None none commands s = λ kept. none ((s.book.says.kept list).1 kept)
 birth_for e list (Some b) birth commands s = (s.book.says.birth list b).0 birth
 
 -- ---- what `least` answers
 
-pub path_is : (e : Seen) (b : Book) (g : Graph) (k : ℕ) → g ≡ e.graph → b ≡ e.book → AreLawful g k (kept_paths b) → (x y id : ℕ) → IsLeastKept b x y id → IsBook b → (l : LeastPath) → l.book ≡ b → l.id ≡ id → IsLeastPath e x y l
+pub path_is : (e : EngineSeen) (b : Book) (g : Graph) (k : ℕ) → g ≡ e.graph → b ≡ e.book → AreLawful g k (kept_paths b) → (x y id : ℕ) → IsLeastKeptId b x y id → IsBook b → (l : LeastPath) → l.book ≡ b → l.id ≡ id → IsLeastPath e x y l
 path_is e b g k graph paths lawful x y id least book l book_is id_is = subst (IsLeastPath e x y) (λ i. record { book = sym book_is i; id = sym id_is i }) (record {
   book = paths;
   lawful = book;

@@ -10,24 +10,24 @@ use Rattle.apsp_model.specs.Command.{Step, Star_step, cleaned, with_cleaning}
 use Rattle.apsp_model.specs.Kept.{Moment, after_star, after_steps, IsWithEdge}
 use Rattle.apsp_model.specs.Counts.{RemovedIs, PathsAre}
 use Rattle.apsp_model.specs.Paths.{KeptPath, IsOncePerList, moment_in}
-use Rattle.fixup_math.proofs.Births.{IsBook}
+use Rattle.fixup_math.proofs.Births.{StateBefore}
 use Rattle.apsp_model.proofs.Members.{in_cons, in_nil, head_in, tail_in}
 use Rattle.apsp_model.proofs.Counting.{count_same}
-use Rattle.history_engine.specs.Seen.{Seen, moment_seen, paths_of, IsSame}
+use Rattle.history_engine.specs.Seen.{EngineSeen, moment_seen, paths_of, SayTheSame}
 use Rattle.history_engine.specs.Advance.{AdvanceByStar, steps_of_star}
 use Rattle.history_engine.specs.Lawful.{IsMomentOf}
 use Rattle.history_engine.specs.Stepping.{IsStepDone, UpdateInvariant}
 use Rattle.history_engine.proofs.Moments.{same_chain, star_on}
 
 -- what is lawful is a book of the mathematics of settling, and the other way round
-pub to_book : (g : Graph) (m : Moment) → IsMomentOf g m → IsBook g m
+pub to_book : (g : Graph) (m : Moment) → IsMomentOf g m → StateBefore g m
 to_book g m l = record { closed = l.closed; singles = l.singles; marked_kept = l.marked_kept; kept = l.kept; single_births = l.single_births; least = l.least }
 
-pub from_book : (g : Graph) (m : Moment) → IsBook g m → IsMomentOf g m
+pub from_book : (g : Graph) (m : Moment) → StateBefore g m → IsMomentOf g m
 from_book g m b = record { closed = b.closed; singles = b.singles; marked_kept = b.marked_kept; kept = b.kept; single_births = b.single_births; least = b.least }
 
 -- a book stays one where the moment says the same
-pub book_on : (g : Graph) (m n : Moment) → IsSame m n → IsBook g m → IsBook g n
+pub book_on : (g : Graph) (m n : Moment) → SayTheSame m n → StateBefore g m → StateBefore g n
 book_on g m n s b = record {
   closed = λ p q h part. (s.historical q).0 (b.closed p q ((s.historical p).1 h) part);
   singles = λ p h. (s.historical p).0 (b.singles p h);
@@ -106,7 +106,7 @@ paths_are k ks once = record {
 -- ---- one step, and steps behind each other
 
 -- the update's own step
-pub first_step : (e : Seen) (s : Star) (g : Graph) (formed removed : ℕ) (paths : List KeptPath) → g ≡ star_of e.graph s → IsStepDone s.vertex g e.steps (paths_of e) paths formed removed → UpdateInvariant e s g (if e.smooth then cleaned (e.vertices ++ s.vertex ∷ []) else []) (e.steps + 1) formed removed paths
+pub first_step : (e : EngineSeen) (s : Star) (g : Graph) (formed removed : ℕ) (paths : List KeptPath) → g ≡ star_of e.graph s → IsStepDone s.vertex g e.steps (paths_of e) paths formed removed → UpdateInvariant e s g (if e.smooth then cleaned (e.vertices ++ s.vertex ∷ []) else []) (e.steps + 1) formed removed paths
 first_step e s g formed removed paths is done = record {
   made = Star_step s.vertex g ∷ [];
   rest = ap (λ h. with_cleaning (if e.smooth then cleaned (e.vertices ++ s.vertex ∷ []) else []) h (Star_step s.vertex h ∷ [])) is;
@@ -118,7 +118,7 @@ first_step e s g formed removed paths is done = record {
 }
 
 -- one cleaning step more
-pub cleaning_step : (e : Seen) (s : Star) (g : Graph) (v : ℕ) (left : List ℕ) (steps formed removed : ℕ) (paths : List KeptPath) (more_formed more_removed : ℕ) (after : List KeptPath) → UpdateInvariant e s g (v ∷ left) steps formed removed paths → IsStepDone v g steps paths after more_formed more_removed → UpdateInvariant e s g left (steps + 1) (formed + more_formed) (removed + more_removed) after
+pub cleaning_step : (e : EngineSeen) (s : Star) (g : Graph) (v : ℕ) (left : List ℕ) (steps formed removed : ℕ) (paths : List KeptPath) (more_formed more_removed : ℕ) (after : List KeptPath) → UpdateInvariant e s g (v ∷ left) steps formed removed paths → IsStepDone v g steps paths after more_formed more_removed → UpdateInvariant e s g left (steps + 1) (formed + more_formed) (removed + more_removed) after
 cleaning_step e s g v left steps formed removed paths more_formed more_removed after w done = record {
   made = Star_step v g ∷ w.made;
   rest = w.rest;
@@ -134,7 +134,7 @@ cleaning_step e s g v left steps formed removed paths more_formed more_removed a
 }
 
 -- the whole update, once no vertex is left to be cleaned
-pub update_done : (e : Seen) (s : Star) (after : Seen) → IsOncePerList (paths_of e) → after.opening ≡ e.opening → after.smooth ≡ e.smooth → after.graph ≡ star_of e.graph s → after.vertices ≡ e.vertices ++ s.vertex ∷ [] → after.spent ≡ false
+pub update_done : (e : EngineSeen) (s : Star) (after : EngineSeen) → IsOncePerList (paths_of e) → after.opening ≡ e.opening → after.smooth ≡ e.smooth → after.graph ≡ star_of e.graph s → after.vertices ≡ e.vertices ++ s.vertex ∷ [] → after.spent ≡ false
     → UpdateInvariant e s after.graph [] after.steps after.formed after.removed (paths_of after) → AdvanceByStar e s after
 update_done e s after once opening smooth graph vertices spent w = record {
   opening = opening;
@@ -154,5 +154,5 @@ update_done e s after once opening smooth graph vertices spent w = record {
   not_spent = spent;
 }
   where
-    says : IsSame (moment_seen after) (after_steps (moment_seen e) (steps_of_star e s))
-    says = subst (λ (made : List Step). IsSame (moment_seen after) (after_steps (moment_seen e) made)) w.rest w.says
+    says : SayTheSame (moment_seen after) (after_steps (moment_seen e) (steps_of_star e s))
+    says = subst (λ (made : List Step). SayTheSame (moment_seen after) (after_steps (moment_seen e) made)) w.rest w.says

@@ -8,15 +8,15 @@ use Rattle.apsp_model.specs.Kept.{Moment, after_star, IsWithEdge}
 use Rattle.apsp_model.specs.Counts.{CountIs}
 use Rattle.apsp_model.specs.Paths.{KeptPath, IsOncePerList, IsKeptIn, IsHistoricalIn, HasBirthIn, moment_in}
 use Rattle.apsp_model.specs.Settled.{IsCleaned, IsSettled}
-use Rattle.fixup_math.proofs.Births.{IsBook, Left, LeftHistorical, IsStep, step, formed_is, book_after}
+use Rattle.fixup_math.proofs.Births.{StateBefore, Left, LeftHistorical, IsStep, step, formed_is, book_after}
 use Rattle.apsp_model.proofs.Counting.{count_same}
 use Rattle.fixup_math.proofs.Start.{vertex_of_one}
-use Rattle.history_engine.specs.Seen.{IsSame}
+use Rattle.history_engine.specs.Seen.{SayTheSame}
 use Rattle.history_engine.proofs.Moments.{same_turned}
 use Rattle.history_engine.specs.Stepping.{IsStepDone}
 use Rattle.history_engine.proofs.Stepping.{book_on, from_book}
 
-module _ (v k : ℕ) (gb g : Graph) (before : List KeptPath) (same_count : gb.vertices ≡ g.vertices) (same_away : (a b : ℕ) → touches v (a, b) ≡ false → weight_at gb a b ≡ weight_at g a b) (book : IsBook gb (moment_in k before)) where
+module _ (v k : ℕ) (gb g : Graph) (before : List KeptPath) (same_count : gb.vertices ≡ g.vertices) (same_away : (a b : ℕ) → touches v (a, b) ≡ false → weight_at gb a b ≡ weight_at g a b) (book : StateBefore gb (moment_in k before)) where
   abbrev pub m : Moment
   m = moment_in k before
 
@@ -90,7 +90,7 @@ module _ (v k : ℕ) (gb g : Graph) (before : List KeptPath) (same_count : gb.ve
             λ h. (settled.births p b).1 (elim h [ inl old ↦ inl ((middle_birth p b).1 old) | inr new ↦ inr (new.0, λ kept. new.1 ((middle_kept p).0 kept), new.2) ]),
           ))
 
-      says : IsSame (moment_in (k + 1) after) (after_star m v g)
+      says : SayTheSame (moment_in (k + 1) after) (after_star m v g)
       says = record { steps = refl; historical = made.historical; kept = made.kept; birth = made.births }
 
       pub step_done : IsStepDone v g k before after formed removed

@@ -14,7 +14,7 @@ use Rattle.apsp_model.specs.Settled.{IsCleaned, AreLocal, IsSettled}
 use Rattle.apsp_model.proofs.Simples.{contained_or_not}
 use Rattle.apsp_model.proofs.Stars.{weight-star_of, weight-star_at, same_graph}
 use Rattle.apsp_model.proofs.Counting.{count_same, count_unique, count_either, count_decides, count_without}
-use Rattle.history_engine.specs.Seen.{Seen, paths_of}
+use Rattle.history_engine.specs.Seen.{EngineSeen, paths_of}
 use Rattle.history_engine.specs.Lawful.{AreLawful, IsStepReady}
 use Rattle.history_engine.specs.Stepping.{IsStepDone, UpdateInvariant, StarIsInPlace}
 use Rattle.history_engine.specs.Times.{left_from}
@@ -103,7 +103,7 @@ one_cleaned vs v w i e =
 
 -- before the power of number i, after steps that began with so many steps, formed and removed paths
 pub record CleaningInvariant (g : Graph) (vs : List ℕ) (k f r : ℕ) (before : List KeptPath) (i steps formed removed : ℕ) (after : List KeptPath) : Type 0 where
-  pub on : (e : Seen) (s : Star) → UpdateInvariant e s g (left_from vs 0) k f r before → UpdateInvariant e s g (left_from vs i) steps formed removed after
+  pub on : (e : EngineSeen) (s : Star) → UpdateInvariant e s g (left_from vs 0) k f r before → UpdateInvariant e s g (left_from vs i) steps formed removed after
   pub lawful : AreLawful g steps after
   pub steps_few : steps ≤ k + i
   pub steps_more : k ≤ steps
@@ -111,14 +111,14 @@ pub record CleaningInvariant (g : Graph) (vs : List ℕ) (k f r : ℕ) (before :
   pub removed_few : removed ≤ 2 ^ 48 * (i + 1)
 
 pub cleaning_done : (g : Graph) (vs : List ℕ) (v k f r : ℕ) (before : List KeptPath) (steps formed removed : ℕ) (after : List KeptPath) → length vs < 2 ^ 40 → CleaningInvariant g (vs ++ v ∷ []) k f r before 40 steps formed removed after
-    → (e : Seen) (s : Star) → UpdateInvariant e s g (cleaned (vs ++ v ∷ [])) k f r before → UpdateInvariant e s g [] steps formed removed after
+    → (e : EngineSeen) (s : Star) → UpdateInvariant e s g (cleaned (vs ++ v ∷ [])) k f r before → UpdateInvariant e s g [] steps formed removed after
 cleaning_done g vs v k f r before steps formed removed after few c e s w =
     let ws : List ℕ = vs ++ v ∷ [] in
     let over : left_from ws 40 ≡ [] = left_end ws 40 (let long : length ws ≡ length vs + 1 = long_one_more vs v in omega (arith, long, few)) in
     subst (λ (left : List ℕ). UpdateInvariant e s g left steps formed removed after) over (c.on e s (subst (λ (left : List ℕ). UpdateInvariant e s g left k f r before) (left_start ws) w))
 
 -- the star step of an update, where the update has begun
-pub begun : (e : Seen) (s : Star) (g : Graph) (cleans : Bool) (vs : List ℕ) (v k : ℕ) (before after : List KeptPath) (formed removed : ℕ) → StarIsInPlace e s g cleans vs v k before → IsStepDone v g k before after formed removed → UpdateInvariant e s g (if cleans then cleaned (vs ++ v ∷ []) else []) (k + 1) formed removed after
+pub begun : (e : EngineSeen) (s : Star) (g : Graph) (cleans : Bool) (vs : List ℕ) (v k : ℕ) (before after : List KeptPath) (formed removed : ℕ) → StarIsInPlace e s g cleans vs v k before → IsStepDone v g k before after formed removed → UpdateInvariant e s g (if cleans then cleaned (vs ++ v ∷ []) else []) (k + 1) formed removed after
 begun e s g cleans vs v k before after formed removed b done =
     let at_vertex : IsStepDone s.vertex g k before after formed removed = subst (λ u. IsStepDone u g k before after formed removed) (sym b.vertex) done in
     let at_steps : IsStepDone s.vertex g e.steps before after formed removed = subst (λ n. IsStepDone s.vertex g n before after formed removed) (sym b.steps) at_vertex in
@@ -152,7 +152,7 @@ cleaning_starts g vs k f r before lawful few_formed few_removed = record {
 
 pub cleaning_more : (g : Graph) (vs : List ℕ) (k f r : ℕ) (before : List KeptPath) (i steps formed removed : ℕ) (paths : List KeptPath) (more_steps more_formed more_removed : ℕ) (after : List KeptPath)
     → CleaningInvariant g vs k f r before i steps formed removed paths
-    → ((e : Seen) (s : Star) → UpdateInvariant e s g (left_from vs i) steps formed removed paths → UpdateInvariant e s g (left_from vs (i + 1)) more_steps more_formed more_removed after)
+    → ((e : EngineSeen) (s : Star) → UpdateInvariant e s g (left_from vs i) steps formed removed paths → UpdateInvariant e s g (left_from vs (i + 1)) more_steps more_formed more_removed after)
     → AreLawful g more_steps after → more_steps ≤ steps + 1 → steps ≤ more_steps → more_formed ≤ 2 ^ 48 * (i + 2) → more_removed ≤ 2 ^ 48 * (i + 2)
     → CleaningInvariant g vs k f r before (i + 1) more_steps more_formed more_removed after
 cleaning_more g vs k f r before i steps formed removed paths more_steps more_formed more_removed after c on lawful few more formed_few removed_few =

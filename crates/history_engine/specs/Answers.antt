@@ -3,17 +3,17 @@ use Rattle.std.specs.Prelude.{◌≡◌, ◌+◌, true, length}
 use Rattle.apsp_model.specs.Counts.{Counts as Numbers, PathsAre, HistoricalAre}
 use Rattle.history_engine.specs.declared.engine.Counts.{Counts}
 use Rattle.history_engine.specs.declared.engine.Change.{Change}
-use Rattle.history_engine.specs.Seen.{Seen, moment_seen}
+use Rattle.history_engine.specs.Seen.{EngineSeen, moment_seen}
 
 -- the numbers of an update: which it is, how many steps it made, how many paths these formed and removed
-pub record IsChange (before after : Seen) (c : Change) : Type 0 where
+pub record IsChange (before after : EngineSeen) (c : Change) : Type 0 where
   pub number : c.number ≡ length after.vertices
   pub steps : c.steps + before.steps ≡ after.steps
   pub formed : c.formed ≡ after.formed
   pub removed : c.removed ≡ after.removed
 
 -- an update that memory ran out in leaves the engine spent, and all as it was but for the book
-abbrev pub IsSpentBy : Seen → Seen → Type 0
+abbrev pub IsSpentBy : EngineSeen → EngineSeen → Type 0
 IsSpentBy before after = after ≡ record before { spent = true; book = after.book }
 
 abbrev pub numbers : Counts → Numbers
@@ -27,7 +27,7 @@ numbers c = record {
 }
 
 -- the counts of what is seen
-pub record AreCounts (e : Seen) (c : Counts) : Type 0 where
+pub record AreCounts (e : EngineSeen) (c : Counts) : Type 0 where
   pub updates : c.updates ≡ length e.vertices
   pub steps : c.steps ≡ e.steps
   pub paths : PathsAre (moment_seen e) c.paths

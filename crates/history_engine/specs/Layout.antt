@@ -4,10 +4,10 @@ use Rattle.apsp_model.specs.declared.TheConstants.{MOST_UPDATES}
 use Rattle.path_book.specs.Book.{kept_paths}
 use Rattle.history_engine.specs.declared.engine.Engine.TheInside.{Inside}
 use Rattle.history_engine.specs.declared.update.TheConstants.{MOST_STEPS}
-use Rattle.history_engine.specs.Seen.{Seen}
+use Rattle.history_engine.specs.Seen.{EngineSeen}
 use Rattle.history_engine.specs.Lawful.{AreLawful}
 
-abbrev pub seen_of : Inside → Seen
+abbrev pub seen_of : Inside → EngineSeen
 seen_of e = record {
   opening = e.graph.vertices;
   graph = e.graph;

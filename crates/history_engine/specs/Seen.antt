@@ -9,7 +9,7 @@ use Rattle.apsp_model.specs.Paths.{KeptPath, IsOncePerList, moment_in}
 
 -- the opening number of vertices; the graph; whether smoothing is on; the vertex of each update; the number of steps;
 -- what the latest update formed and removed; whether the engine is spent; and the book that it holds
-pub record Seen : Type 0 where
+pub record EngineSeen : Type 0 where
   pub opening : ℕ
   pub graph : Graph
   pub smooth : Bool
@@ -20,8 +20,8 @@ pub record Seen : Type 0 where
   pub spent : Bool
   pub book : Book
 
-abbrev pub seen_code : Coded Seen
-seen_code =
+abbrev pub engine_seen_code : Coded EngineSeen
+engine_seen_code =
     code_by (ℕ × (Graph × (Bool × (List ℕ × (ℕ × (ℕ × (ℕ × (Bool × Book))))))))
     (coded× coded_ℕ
     (coded× graph_code
@@ -43,22 +43,22 @@ seen_code =
     (λ _. refl)
 
 -- the kept paths
-abbrev pub paths_of : Seen → List KeptPath
+abbrev pub paths_of : EngineSeen → List KeptPath
 paths_of e = kept_paths e.book
 
 -- what is seen, as a moment
-abbrev pub moment_seen : Seen → Moment
+abbrev pub moment_seen : EngineSeen → Moment
 moment_seen e = moment_in e.steps (paths_of e)
 
 -- two moments say the same
-pub record IsSame (m n : Moment) : Type 0 where
+pub record SayTheSame (m n : Moment) : Type 0 where
   pub steps : m.steps ≡ n.steps
   pub historical : (p : List ℕ) → m.historical p ↔ n.historical p
   pub kept : (p : List ℕ) → m.kept p ↔ n.kept p
   pub birth : (p : List ℕ) (b : ℕ) → m.birth p b ↔ n.birth p b
 
 -- the paths have their weights in the graph, each stands once, and they say what the moment says
-pub record BookIs (e : Seen) (m : Moment) : Type 0 where
+pub record BookIs (e : EngineSeen) (m : Moment) : Type 0 where
   pub weights : (k : KeptPath) → Contains (paths_of e) k → k.weight ≡ weight_of e.graph k.list
   pub once : IsOncePerList (paths_of e)
-  pub says : IsSame (moment_seen e) m
+  pub says : SayTheSame (moment_seen e) m

@@ -3,6 +3,7 @@
 ghost use Rattle.std.specs.Prelude.{◌≡◌, length, false};
 
 use crate::Engine;
+use graph_store::Graph;
 use version_face::{Answers, Entry, Version};
 
 impl Answers for Engine {
@@ -24,6 +25,10 @@ impl Answers for Engine {
 
     fn weight(&self, u: u32, v: u32) -> Option<u32> {
         self.graph().weight(u, v)
+    }
+
+    fn copy_graph(&self, other: &mut Graph) {
+        self.graph().copy_into(other);
     }
 
     fn entry(&self, x: u32, y: u32) -> Option<Entry> {

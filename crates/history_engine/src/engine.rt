@@ -82,11 +82,11 @@ pub struct Engine {
 }
 
 impl Model for Engine {
-    ghost use Rattle.history_engine.specs.Seen.{Seen, seen_code};
+    ghost use Rattle.history_engine.specs.Seen.{EngineSeen, engine_seen_code};
 
-    ghost Value = { Seen };
+    ghost Value = { EngineSeen };
 
-    ghost coded = { seen_code };
+    ghost coded = { engine_seen_code };
 
     ghost use Rattle.history_engine.specs.Layout.{seen_of, IsEngine};
 
@@ -227,7 +227,7 @@ impl Engine {
     }
 
     /// Says to the prover that the graph has as many vertices as the engine, and does nothing.
-    pub(crate) fn graph_has_each_vertex(&self)
+    pub fn graph_has_each_vertex(&self)
         ensures { self.now.graph.vertices ≡ self.now.opening }
     {
         let _graph = self.graph();

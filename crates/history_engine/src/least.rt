@@ -2,7 +2,7 @@
 
 ghost use Rattle.std.specs.Prelude.{◌≡◌};
 ghost use Rattle.apsp_model.specs.Walk.{hops_of};
-ghost use Rattle.path_arena.specs.Arena.{IsLive, list_of, weight_of};
+ghost use Rattle.path_arena.specs.Arena.{IsLive, list_of, weight_of_id};
 ghost use Rattle.version_face.specs.Entries.{second_of};
 
 use path_arena::{PathId, Vertices};
@@ -48,7 +48,7 @@ impl<'a> Least<'a> {
 
     /// Its weight.
     pub fn weight(&self) -> u64
-        ensures { result ≡ weight_of self.now.book.arena self.now.id }
+        ensures { result ≡ weight_of_id self.now.book.arena self.now.id }
     {
         self.book.arena().weight(self.id)
     }

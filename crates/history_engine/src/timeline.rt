@@ -2,7 +2,7 @@
 
 ghost use Rattle.std.specs.Prelude.{◌≡◌, ℕ, ◌+◌, ◌-◌, ◌^◌, ◌<◌, ◌≤◌, [], ◌∷◌, ◌++◌, length, Some, slice_get, slice_index, IfOk, IfSome, OnOk};
 ghost use Rattle.apsp_model.specs.Command.{latest_at};
-ghost use Rattle.history_engine.specs.Times.{IsLatest};
+ghost use Rattle.history_engine.specs.Times.{IsLatestUpdate};
 
 use apsp_model::Memory;
 use std::alloc::Global;
@@ -87,7 +87,7 @@ impl Timeline {
 
 fn cleaned_vertex(vertices: &[u32], latest: &[usize], v: u32, power: u32) -> Option<u32>
     requires power { power < 64 }
-    requires times { (w : ℕ) → w < length latest.now → IsLatest vertices.now w (slice_index latest.now w) }
+    requires times { (w : ℕ) → w < length latest.now → IsLatestUpdate vertices.now w (slice_index latest.now w) }
     requires inside { (s w : ℕ) → slice_get vertices.now s ≡ Some w → w < length latest.now }
     ensures cleaned { result ≡ latest_at (vertices.now ++ v ∷ []) (length vertices.now + 1 - 2 ^ power) }
     ensures inside { IfSome result (λ w. w < length latest.now) }

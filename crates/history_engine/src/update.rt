@@ -6,7 +6,7 @@ ghost use Rattle.apsp_model.specs.declared.TheConstants.{MOST_UPDATES, MOST_PATH
 ghost use Rattle.apsp_model.specs.Star.{Star};
 ghost use Rattle.apsp_model.specs.Command.{cleaned};
 ghost use Rattle.path_book.specs.Book.{kept_paths};
-ghost use Rattle.history_engine.specs.Seen.{Seen};
+ghost use Rattle.history_engine.specs.Seen.{EngineSeen};
 ghost use Rattle.history_engine.specs.Lawful.{AreLawful, IsStepReady};
 ghost use Rattle.history_engine.specs.Stepping.{IsStepDone, UpdateInvariant, StarIsInPlace};
 ghost use Rattle.history_engine.specs.Times.{left_from};
@@ -72,7 +72,8 @@ pub(crate) fn update<R: Threads + Sync, G: Gate>(
     requires few_updates { length timeline.old.vertices < MOST_UPDATES }
     requires few_steps { steps + MOST_STEPS < 2 ^ 64 }
     ensures done { IfOk result
-        (λ p. (e : Seen) (s : Star) → StarIsInPlace e s graph.now smooth timeline.old.vertices v steps (kept_paths book.old)
+        (λ p. (e : EngineSeen) (s : Star)
+        → StarIsInPlace e s graph.now smooth timeline.old.vertices v steps (kept_paths book.old)
         → UpdateInvariant e s graph.now [] p.steps p.formed p.removed (kept_paths book.new)) }
     ensures steps_few { IfOk result (λ p. p.steps ≤ steps + MOST_STEPS) }
     ensures steps_more { IfOk result (λ p. steps ≤ p.steps) }
@@ -113,7 +114,7 @@ fn clean<R: Threads + Sync, G: Gate>(
     requires few_formed { done.formed ≤ MOST_PATHS }
     requires few_removed { done.removed ≤ MOST_PATHS }
     ensures done { IfOk result
-        (λ p. (e : Seen) (s : Star)
+        (λ p. (e : EngineSeen) (s : Star)
         → UpdateInvariant e s graph.now (cleaned (timeline.now.vertices ++ v ∷ [])) done.steps done.formed done.removed
         (kept_paths book.old) → UpdateInvariant e s graph.now [] p.steps p.formed p.removed (kept_paths book.new)) }
     ensures steps_few { IfOk result (λ p. p.steps ≤ done.steps + 40) }
@@ -146,11 +147,11 @@ fn clean_one<R: Threads + Sync, G: Gate>(
     requires few_formed { done.formed ≤ MOST_PATHS * (power + 1) }
     requires few_removed { done.removed ≤ MOST_PATHS * (power + 1) }
     ensures done { IfOk result
-        (λ p. (e : Seen) (s : Star)
+        (λ p. (e : EngineSeen) (s : Star)
         → UpdateInvariant e s graph.now
         (left_from (timeline.now.vertices ++ v ∷ []) power) done.steps done.formed done.removed (kept_paths book.old)
-        → UpdateInvariant e s graph.now (left_from (timeline.now.vertices ++ v ∷ []) (power + 1)) p.steps p.formed p.removed
-        (kept_paths book.new)) }
+        → UpdateInvariant e s graph.now
+        (left_from (timeline.now.vertices ++ v ∷ []) (power + 1)) p.steps p.formed p.removed (kept_paths book.new)) }
     ensures paths { IfOk result (λ p. AreLawful graph.now p.steps (kept_paths book.new)) }
     ensures steps_few { IfOk result (λ p. p.steps ≤ done.steps + 1) }
     ensures steps_more { IfOk result (λ p. done.steps ≤ p.steps) }

@@ -5,11 +5,11 @@ use Rattle.apsp_model.specs.Star.{Star}
 use Rattle.apsp_model.specs.Command.{Update, graph_of}
 use Rattle.apsp_model.specs.Counts.{CountsAre}
 use Rattle.apsp_model.specs.Stated.{Stated}
-use Rattle.history_engine.specs.Seen.{Seen}
+use Rattle.history_engine.specs.Seen.{EngineSeen}
 use Rattle.history_engine.specs.Advance.{Advance, Stands}
 use Rattle.history_engine.specs.Answers.{numbers}
 use Rattle.history_engine.specs.declared.engine.Counts.{Counts as Counted}
-use Rattle.version_face.specs.Seen.{Seen as Version}
+use Rattle.version_face.specs.Seen.{VersionSeen as Version}
 use Rattle.certificate.specs.Giving.{IsStatedOf}
 use Rattle.load_run.specs.declared.draws.TheConstants.{MODULUS}
 use Rattle.load_run.specs.Draws.{drawn, drawn_star, draws_of_star, drawn_updates, load_updates}
@@ -17,14 +17,14 @@ use Rattle.load_run.specs.Report.{DistancesAre, IsReport}
 use Rattle.load_run.proofs.Drawing.{drawn_chain}
 
 -- after k updates
-pub record HasMade (n seed k : ℕ) (e : Seen) (last : ℕ) : Type 0 where
+pub record HasMade (n seed k : ℕ) (e : EngineSeen) (last : ℕ) : Type 0 where
   pub stands : Stands e (drawn_updates n seed k)
   pub opening : e.opening ≡ n
   pub smooth : e.smooth ≡ false
   pub size : length e.vertices ≡ k
   pub place : last ≡ drawn (seed % MODULUS) (k * draws_of_star n)
 
-pub made_none : (n seed : ℕ) (e : Seen) (last : ℕ) → Stands e [] → e.opening ≡ n → e.smooth ≡ false → last ≡ seed % MODULUS → HasMade n seed 0 e last
+pub made_none : (n seed : ℕ) (e : EngineSeen) (last : ℕ) → Stands e [] → e.opening ≡ n → e.smooth ≡ false → last ≡ seed % MODULUS → HasMade n seed 0 e last
 made_none n seed e last stands opening smooth place = record {
   stands = stands;
   opening = opening;
@@ -36,7 +36,7 @@ made_none n seed e last stands opening smooth place = record {
     none : 0 ≡ 0 * draws_of_star n
     none = omega arith
 
-pub made_more : (n seed k : ℕ) (before after : Seen) (star : Star) (last now : ℕ) → HasMade n seed k before last → star ≡ drawn_star n last → now ≡ drawn last (draws_of_star n) → Advance before (Update star) after → (Stands before (drawn_updates n seed k) → Stands after (Update star ∷ drawn_updates n seed k)) → HasMade n seed (suc k) after now
+pub made_more : (n seed k : ℕ) (before after : EngineSeen) (star : Star) (last now : ℕ) → HasMade n seed k before last → star ≡ drawn_star n last → now ≡ drawn last (draws_of_star n) → Advance before (Update star) after → (Stands before (drawn_updates n seed k) → Stands after (Update star ∷ drawn_updates n seed k)) → HasMade n seed (suc k) after now
 made_more n seed k before after star last now h is place advance step =
     let same : star ≡ drawn_star n (drawn (seed % MODULUS) (k * draws_of_star n)) = is ∙ ap (drawn_star n) h.place in
     let F : Star → Type 0 = λ s. Stands after (Update s ∷ drawn_updates n seed k) in
@@ -56,7 +56,7 @@ made_more n seed k before after star last now h is place advance step =
 
 -- ---- the report
 
-pub report_of : (n seed : ℕ) (e : Seen) (v : Version) (s : Stated) (c : Counted) (pairs sum : ℕ) → e.opening ≡ n → e.smooth ≡ false → Stands e (load_updates n seed) → CountsAre e.opening e.smooth (load_updates n seed) (numbers c) → c.updates ≡ length e.vertices → v.graph ≡ e.graph → v.number ≡ length e.vertices → IsStatedOf v s → DistancesAre s pairs sum → IsReport n seed (record { updates = c.updates; pairs = pairs; sum = sum; paths = c.paths; historical = c.historical })
+pub report_of : (n seed : ℕ) (e : EngineSeen) (v : Version) (s : Stated) (c : Counted) (pairs sum : ℕ) → e.opening ≡ n → e.smooth ≡ false → Stands e (load_updates n seed) → CountsAre e.opening e.smooth (load_updates n seed) (numbers c) → c.updates ≡ length e.vertices → v.graph ≡ e.graph → v.number ≡ length e.vertices → IsStatedOf v s → DistancesAre s pairs sum → IsReport n seed (record { updates = c.updates; pairs = pairs; sum = sum; paths = c.paths; historical = c.historical })
 report_of n seed e v s c pairs sum opening smooth stands counts updates graph number stated distances =
     let a : CountsAre n e.smooth (load_updates n seed) (numbers c) = subst (λ k. CountsAre k e.smooth (load_updates n seed) (numbers c)) opening counts in
     let size : v.number ≡ c.updates = number ∙ sym updates in

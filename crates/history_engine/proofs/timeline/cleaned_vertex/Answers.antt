@@ -1,6 +1,6 @@
 use Rattle.std.proofs.Common.{ℕ, ◌≡◌, Some, slice_get, slice_index, length, subst, sym}
 use Rattle.std.proofs.lemmas.Option.{slice_get-get_or}
-use Rattle.history_engine.specs.Times.{IsLatest}
+use Rattle.history_engine.specs.Times.{IsLatestUpdate}
 use Rattle.history_engine.proofs.Cleaning.{cleaned_here, cleaned_same, cleaned_earlier, time_is}
 use Rattle.history_engine.proofs.timeline.cleaned_vertex.Goals as goal
 use Rattle.history_engine.proofs.timeline.cleaned_vertex.Goals.{else-cleaned-v-via-then-cleaned-v+else-latest-cleaned, else-cleaned-v-via-else-cleaned-v}
@@ -17,7 +17,7 @@ returns-then-latest-cleaned-clause-cleaned c =
     let w = slice_index vs place in
     let t = time_is (length vs) c.args.power place c.requires.power c.in_ok-place.ensures in
     let at : slice_get vs place ≡ Some w = slice_get-get_or vs place 0 t.1 in
-    let F : ℕ → Type 0 = IsLatest vs w in
+    let F : ℕ → Type 0 = IsLatestUpdate vs w in
     sym (cleaned_here vs c.args.v w place _ at c.if-cleaned-v.true (subst F c.if-latest-cleaned.true (c.requires.times w (c.requires.inside place w at))) t.0)
 
 pub returns-else-cleaned-v-clause-cleaned : goal.returns-else-cleaned-v-clause-cleaned

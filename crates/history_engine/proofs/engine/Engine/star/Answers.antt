@@ -4,7 +4,7 @@ use Rattle.apsp_model.specs.Graph.{Graph}
 use Rattle.apsp_model.specs.Paths.{IsOncePerList}
 use Rattle.apsp_model.specs.Star.{star_of}
 use Rattle.path_book.specs.Book.{kept_paths}
-use Rattle.history_engine.specs.Seen.{Seen, paths_of}
+use Rattle.history_engine.specs.Seen.{EngineSeen, paths_of}
 use Rattle.history_engine.specs.Lawful.{IsStepReady}
 use Rattle.history_engine.specs.Stepping.{UpdateInvariant}
 use Rattle.history_engine.proofs.Updating.{star_ready, taken_back}
@@ -22,11 +22,11 @@ update-made-requires-clause-ready g c κs within =
 -- all steps of the update were made
 made : (g : Over) (c : goal.After-len g) → UpdateInvariant c.args.self.now c.args.star.now c.apply.new.self [] c.in-Ok.progress.steps c.in-Ok.progress.formed c.in-Ok.progress.removed (kept_paths c.update-made.new.book)
 made g c = c.in-Ok.ensures.done c.args.self.now c.args.star.now (record {
-  graph = c.apply.ensures.after ∙ ap (λ (e : Seen). star_of e.graph c.args.star.now) c.self.view_is;
-  smooth = sym (ap (λ (e : Seen). e.smooth) c.self.view_is);
-  vertices = sym (ap (λ (e : Seen). e.vertices) c.self.view_is);
+  graph = c.apply.ensures.after ∙ ap (λ (e : EngineSeen). star_of e.graph c.args.star.now) c.self.view_is;
+  smooth = sym (ap (λ (e : EngineSeen). e.smooth) c.self.view_is);
+  vertices = sym (ap (λ (e : EngineSeen). e.vertices) c.self.view_is);
   vertex = sym c.vertex-v.ensures.vertex;
-  steps = sym (ap (λ (e : Seen). e.steps) c.self.view_is);
+  steps = sym (ap (λ (e : EngineSeen). e.steps) c.self.view_is);
   paths = sym (ap paths_of c.self.view_is);
 })
 
@@ -35,7 +35,7 @@ invariant_of-self g c =
     let same : c.apply.new.self.vertices ≡ c.self.inside.graph.vertices = ap (λ (h : Graph). h.vertices) c.apply.ensures.after in
     let more : length c.record.new.self.vertices ≡ length c.self.inside.timeline.vertices + 1 =
     ap length (c.record.ensures.vertices ∙ ap (λ (vs : List ℕ). vs ++ c.vertex-v.result ∷ []) c.update-made.ensures.timeline) ∙ length-append c.self.inside.timeline.vertices (c.vertex-v.result ∷ []) in
-    let now : length c.self.inside.timeline.vertices ≡ length c.args.self.now.vertices = ap (λ (e : Seen). length e.vertices) c.self.view_is in
+    let now : length c.self.inside.timeline.vertices ≡ length c.args.self.now.vertices = ap (λ (e : EngineSeen). length e.vertices) c.self.view_is in
     record {
       star_size = ap (λ s. s.vertices) c.star_into.ensures.star ∙ sym same;
       book_size = λ e. c.in-Ok.ensures.book_size ∙ c.self.invariant.book_size e ∙ sym same;
@@ -49,27 +49,27 @@ pub returns-in-Ok-clause-advance : goal.returns-in-Ok-clause-advance
 returns-in-Ok-clause-advance g c =
     update_done c.args.self.now c.args.star.now _
     (subst IsOncePerList (ap paths_of c.self.view_is) (c.self.invariant.paths c.if-self.false).once)
-    (ap (λ (h : Graph). h.vertices) c.apply.ensures.after ∙ ap (λ (e : Seen). e.opening) c.self.view_is)
-    (ap (λ (e : Seen). e.smooth) c.self.view_is)
-    (c.apply.ensures.after ∙ ap (λ (e : Seen). star_of e.graph c.args.star.now) c.self.view_is)
-    (c.record.ensures.vertices ∙ (λ i. (c.update-made.ensures.timeline ∙ ap (λ (e : Seen). e.vertices) c.self.view_is) i ++ c.vertex-v.ensures.vertex i ∷ []))
+    (ap (λ (h : Graph). h.vertices) c.apply.ensures.after ∙ ap (λ (e : EngineSeen). e.opening) c.self.view_is)
+    (ap (λ (e : EngineSeen). e.smooth) c.self.view_is)
+    (c.apply.ensures.after ∙ ap (λ (e : EngineSeen). star_of e.graph c.args.star.now) c.self.view_is)
+    (c.record.ensures.vertices ∙ (λ i. (c.update-made.ensures.timeline ∙ ap (λ (e : EngineSeen). e.vertices) c.self.view_is) i ++ c.vertex-v.ensures.vertex i ∷ []))
     c.if-self.false
     (made g c)
 
 pub returns-in-Err-clause-memory : goal.returns-in-Err-clause-memory
 returns-in-Err-clause-memory g c =
     let back : c.apply-in-Err.new.self ≡ c.args.self.now.graph =
-    c.apply-in-Err.ensures.after ∙ (λ i. star_of (c.apply.ensures.after i) (c.star_into.ensures.star i)) ∙ taken_back c.self.inside.graph c.args.star.now c.vertex-v.result c.vertex-v.ensures.vertex ∙ ap (λ (e : Seen). e.graph) c.self.view_is in
+    c.apply-in-Err.ensures.after ∙ (λ i. star_of (c.apply.ensures.after i) (c.star_into.ensures.star i)) ∙ taken_back c.self.inside.graph c.args.star.now c.vertex-v.result c.vertex-v.ensures.vertex ∙ ap (λ (e : EngineSeen). e.graph) c.self.view_is in
     let count : c.apply-in-Err.new.self.vertices ≡ c.args.self.now.opening =
-    ap (λ (h : Graph). h.vertices) (c.apply-in-Err.ensures.after ∙ (λ i. star_of (c.apply.ensures.after i) (c.star_into.ensures.star i))) ∙ ap (λ (e : Seen). e.opening) c.self.view_is in
+    ap (λ (h : Graph). h.vertices) (c.apply-in-Err.ensures.after ∙ (λ i. star_of (c.apply.ensures.after i) (c.star_into.ensures.star i))) ∙ ap (λ (e : EngineSeen). e.opening) c.self.view_is in
     λ _ i. record {
       opening = count i;
       graph = back i;
-      smooth = (ap (λ (e : Seen). e.smooth) c.self.view_is) i;
-      vertices = (c.update-made.ensures.timeline ∙ ap (λ (e : Seen). e.vertices) c.self.view_is) i;
-      steps = (ap (λ (e : Seen). e.steps) c.self.view_is) i;
-      formed = (ap (λ (e : Seen). e.formed) c.self.view_is) i;
-      removed = (ap (λ (e : Seen). e.removed) c.self.view_is) i;
+      smooth = (ap (λ (e : EngineSeen). e.smooth) c.self.view_is) i;
+      vertices = (c.update-made.ensures.timeline ∙ ap (λ (e : EngineSeen). e.vertices) c.self.view_is) i;
+      steps = (ap (λ (e : EngineSeen). e.steps) c.self.view_is) i;
+      formed = (ap (λ (e : EngineSeen). e.formed) c.self.view_is) i;
+      removed = (ap (λ (e : EngineSeen). e.removed) c.self.view_is) i;
       spent = true;
       book = c.update-made.new.book;
     }
