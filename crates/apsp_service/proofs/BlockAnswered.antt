@@ -13,7 +13,7 @@ use Rattle.block_run.specs.Answers.{IsAskOf, IsAnswer, BlockReply}
 use Rattle.apsp_service.specs.Blocks.{Block}
 use Rattle.apsp_service.specs.Replies.{answer_text}
 use Rattle.apsp_service.specs.Session.{State, HasBlockReply}
-use Rattle.apsp_service.specs.Lawful.{IsBlockOf, IsLawful}
+use Rattle.apsp_service.specs.Lawful.{IsBlockOf, IsLawfulState}
 
 -- an answer from the last graph
 record IsFromLast (p : Plan) (ask : Ask) (a : Answer) : Type 0 where
@@ -63,7 +63,7 @@ some_block_reply p asks readers h =
         let b = (r.each j no_ask e below).number in
         omega (arith, a, b)
 
-pub block_reply_exists : (s : State) → IsLawful s → (text : List ℕ) × HasBlockReply s.readers s.block text
+pub block_reply_exists : (s : State) → IsLawfulState s → (text : List ℕ) × HasBlockReply s.readers s.block text
 block_reply_exists s h = at s.readers s.block h.block
   where
     at : (readers : Option ℕ) (o : Option Block) → IfSome o (IsBlockOf s.vertices s.commands) → (text : List ℕ) × HasBlockReply readers o text

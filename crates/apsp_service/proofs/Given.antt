@@ -12,8 +12,8 @@ use Rattle.script_reader.specs.declared.Line.{Line}
 use Rattle.apsp_model.specs.Stated.{Stated}
 use Rattle.apsp_io.specs.declared.sink.GiveError.{GiveError}
 use Rattle.apsp_io.specs.declared.sink.GiveError.TheVariants as give
-use Rattle.version_face.specs.Seen.{Seen}
-use Rattle.history_engine.specs.Seen.{Seen as Engine}
+use Rattle.version_face.specs.Seen.{VersionSeen}
+use Rattle.history_engine.specs.Seen.{EngineSeen as Engine}
 use Rattle.certificate.specs.Grammar.{text_of}
 use Rattle.certificate.specs.Giving.{IsStatedOf, GivesText}
 use Rattle.apsp_service.specs.Certificate.{IsTextOf, version_of}
@@ -26,8 +26,9 @@ use Rattle.apsp_service.specs.declared.stop.Stop.TheVariants as stop
 use Rattle.apsp_service.specs.Session.{State, HasAnswer, HasLineReply, LineHasReply, HasReply, HaveReplies, HaveAllReplies, ending_of, context_of, counted, after_read, after_line, after_lines}
 use Rattle.apsp_service.specs.Giving.{Gave, GaveAll, GaveFront, GaveFrontOfAll, StopsAmong, GivingEnds, TextGiven, CertificateGiven, as_stop}
 use Rattle.apsp_service.specs.Growing.{LinesGiven, GrowsBy}
-use Rattle.apsp_service.specs.Lawful.{IsLawful}
+use Rattle.apsp_service.specs.Lawful.{IsLawfulState}
 use Rattle.apsp_service.proofs.Replied.{replies_append, one_reply, front_of_more, front_behind, front_none}
+use Rattle.apsp_service.proofs.Seen.{sink_at}
 
 pub appends_nothing : (old : Option (List ℕ)) → Appends old old []
 appends_nothing None = tt
@@ -81,20 +82,20 @@ prefix_of old mid new k done text rest whole is inside h j =
     )
 
 -- a stop while one of the texts is given
-pub stops_in_text : {A : Type 0} (r : Result A Stop) (e : Stop) (old mid new : Option (List ℕ)) (first before now : ℕ) (done text rest whole : List ℕ) → IsErrAnd r (λ y. y ≡ e) → whole ≡ done ++ (text ++ rest) → Appends old mid done → first ≤ before → TextGiven {A = Unit {0}} (Err e) mid new before now text → LinesGiven r old new first now whole
+pub stops_in_text : {A : Type 0} (r : Result A Stop) (e : Stop) (old mid new : Option (List ℕ)) (first before now : ℕ) (done text rest whole : List ℕ) → IsErrAnd r (λ y. y ≡ e) → whole ≡ done ++ (text ++ rest) → Appends old mid done → first ≤ before → TextGiven {A = Unit {0}} (Err e) (sink_at mid before) (sink_at new now) text → LinesGiven r (sink_at old first) (sink_at new now) whole
 stops_in_text {A} (Ok a) e old mid new first before now done text rest whole h is before_it l given = absurd h
 stops_in_text {A} (Err y) e old mid new first before now done text rest whole h is before_it l given =
-    let F : Stop → Type 0 = λ z. LinesGiven {A = A} (Err z) old new first now whole in
+    let F : Stop → Type 0 = λ z. LinesGiven {A = A} (Err z) (sink_at old first) (sink_at new now) whole in
     subst F (sym h) (at e given)
   where
-    at : (e : Stop) → TextGiven {A = Unit {0}} (Err e) mid new before now text → LinesGiven {A = A} (Err e) old new first now whole
+    at : (e : Stop) → TextGiven {A = Unit {0}} (Err e) (sink_at mid before) (sink_at new now) text → LinesGiven {A = A} (Err e) (sink_at old first) (sink_at new now) whole
     at stop.Source k = k
     at stop.Sink k = (prefix_of old mid new k.0.0 done text rest whole is k.0.1 before_it k.0.2, rose_later first before now now l k.1 (omega arith))
     at stop.Memory k = prefix_of old mid new 0 done text rest whole is (omega arith) before_it k
     at stop.Limit k = k
 
 -- want of memory behind the first texts
-pub memory_in_texts : {A : Type 0} (r : Result A Stop) (old mid : Option (List ℕ)) (first before : ℕ) (text : List ℕ) (answers : List Answer) (count : ℕ) → IsErrAnd r (λ y. y ≡ stop.Memory) → Appends old mid (text ++ flat_map answer_text (take count answers)) → LinesGiven r old mid first before (text ++ flat_map answer_text answers)
+pub memory_in_texts : {A : Type 0} (r : Result A Stop) (old mid : Option (List ℕ)) (first before : ℕ) (text : List ℕ) (answers : List Answer) (count : ℕ) → IsErrAnd r (λ y. y ≡ stop.Memory) → Appends old mid (text ++ flat_map answer_text (take count answers)) → LinesGiven r (sink_at old first) (sink_at mid before) (text ++ flat_map answer_text answers)
 memory_in_texts {A} r old mid first before text answers count h given =
     let done = text ++ flat_map answer_text (take count answers) in
     let rest = flat_map answer_text (drop count answers) in
@@ -104,10 +105,10 @@ memory_in_texts {A} r old mid first before text answers count h given =
     ∙ sym (append_assoc text (flat_map answer_text (take count answers)) rest) in
     memory_at r h whole
   where
-    memory_at : (r : Result A Stop) → IsErrAnd r (λ y. y ≡ stop.Memory) → text ++ flat_map answer_text answers ≡ (text ++ flat_map answer_text (take count answers)) ++ ([] ++ flat_map answer_text (drop count answers)) → LinesGiven r old mid first before (text ++ flat_map answer_text answers)
+    memory_at : (r : Result A Stop) → IsErrAnd r (λ y. y ≡ stop.Memory) → text ++ flat_map answer_text answers ≡ (text ++ flat_map answer_text (take count answers)) ++ ([] ++ flat_map answer_text (drop count answers)) → LinesGiven r (sink_at old first) (sink_at mid before) (text ++ flat_map answer_text answers)
     memory_at (Ok a) h whole = absurd h
     memory_at (Err y) h whole =
-        let F : Stop → Type 0 = λ z. LinesGiven {A = A} (Err z) old mid first before (text ++ flat_map answer_text answers) in
+        let F : Stop → Type 0 = λ z. LinesGiven {A = A} (Err z) (sink_at old first) (sink_at mid before) (text ++ flat_map answer_text answers) in
         subst F (sym h) (prefix_of old mid mid 0 (text ++ flat_map answer_text (take count answers)) [] (flat_map answer_text (drop count answers)) (text ++ flat_map answer_text answers) whole (omega arith) given (appends_nothing mid))
 
 -- the texts up to one more answer
@@ -129,11 +130,11 @@ answer_given old mid new text answers i item cleared put given inside is so_far 
     let G : List ℕ → Type 0 = λ z. Appends mid new z in
     subst F (texts_more text answers i item inside is) (appends_both old mid new (text ++ flat_map answer_text (take i answers)) (answer_text item) so_far (subst G (is_text_of cleared put given item none put_is same) h))
 
-pub answer_stops : {A : Type 0} (r : Result A Stop) (e : Stop) (old mid new : Option (List ℕ)) (first before now : ℕ) (text : List ℕ) (answers : List Answer) (i : ℕ) (item : Answer) (cleared put given : List ℕ) → IsErrAnd r (λ y. y ≡ e) → i < length answers → get_or answers i item ≡ item → Appends old mid (text ++ flat_map answer_text (take i answers)) → cleared ≡ [] → put ≡ cleared ++ answer_text item → given ≡ put → first ≤ before → TextGiven {A = Unit {0}} (Err e) mid new before now given → LinesGiven r old new first now (text ++ flat_map answer_text answers)
+pub answer_stops : {A : Type 0} (r : Result A Stop) (e : Stop) (old mid new : Option (List ℕ)) (first before now : ℕ) (text : List ℕ) (answers : List Answer) (i : ℕ) (item : Answer) (cleared put given : List ℕ) → IsErrAnd r (λ y. y ≡ e) → i < length answers → get_or answers i item ≡ item → Appends old mid (text ++ flat_map answer_text (take i answers)) → cleared ≡ [] → put ≡ cleared ++ answer_text item → given ≡ put → first ≤ before → TextGiven {A = Unit {0}} (Err e) (sink_at mid before) (sink_at new now) given → LinesGiven r (sink_at old first) (sink_at new now) (text ++ flat_map answer_text answers)
 answer_stops r e old mid new first before now text answers i item cleared put given h inside is so_far none put_is same l stops =
     let done = text ++ flat_map answer_text (take i answers) in
     let rest = flat_map answer_text (drop (i + 1) answers) in
-    let G : List ℕ → Type 0 = λ z. TextGiven {A = Unit {0}} (Err e) mid new before now z in
+    let G : List ℕ → Type 0 = λ z. TextGiven {A = Unit {0}} (Err e) (sink_at mid before) (sink_at new now) z in
     let whole : text ++ flat_map answer_text answers ≡ done ++ (answer_text item ++ rest) =
     ap (λ z. text ++ flat_map answer_text z) (sym (take-append-drop (i + 1) answers))
     ∙ ap (λ z. text ++ z) (flat_map-append answer_text (take (i + 1) answers) (drop (i + 1) answers))
@@ -171,14 +172,14 @@ line_replied (Ok u) s content l old new reading none other h =
 pub ok_replied : (s : State) (content : List ℕ) (l : Line) (old new : List ℕ) → line_of (context_of s) content ≡ Ok l → old ≡ [] → (l ≡ line.End → ⊥) → GrowsBy (HasReply s.vertices s.smooth s.commands l) old new → LineHasReply s content new
 ok_replied s content l old new reading none other h = line_replied {E = Unit {0}} (Ok tt) s content l old new reading none other h
 
-pub text_gives : (r : Result (Unit {0}) Stop) (old new : Option (List ℕ)) (before now : ℕ) (s : State) (content text : List ℕ) → IsLawful s → LineHasReply s content text → TextGiven r old new before now text → GivingEnds r old new before now s (content ∷ [])
+pub text_gives : (r : Result (Unit {0}) Stop) (old new : Option (List ℕ)) (before now : ℕ) (s : State) (content text : List ℕ) → IsLawfulState s → LineHasReply s content text → TextGiven r (sink_at old before) (sink_at new now) text → GivingEnds r (sink_at old before) (sink_at new now) s (content ∷ [])
 text_gives (Ok u) old new before now s content text lawful reply given = (text, one_reply s content text reply, given)
 text_gives (Err stop.Source) old new before now s content text lawful reply given = given
 text_gives (Err stop.Sink) old new before now s content text lawful reply given = (front_given old new s content text reply given.0, given.1)
 text_gives (Err stop.Memory) old new before now s content text lawful reply given = ([], front_none s (content ∷ []) lawful, given)
 text_gives (Err stop.Limit) old new before now s content text lawful reply given = given
 
-pub lines_give : (r : Result (Unit {0}) Stop) (old new : Option (List ℕ)) (before now : ℕ) (s : State) (content text : List ℕ) → LineHasReply s content text → LinesGiven r old new before now text → GivingEnds r old new before now s (content ∷ [])
+pub lines_give : (r : Result (Unit {0}) Stop) (old new : Option (List ℕ)) (before now : ℕ) (s : State) (content text : List ℕ) → LineHasReply s content text → LinesGiven r (sink_at old before) (sink_at new now) text → GivingEnds r (sink_at old before) (sink_at new now) s (content ∷ [])
 lines_give (Ok u) old new before now s content text reply given = (text, one_reply s content text reply, given)
 lines_give (Err stop.Source) old new before now s content text reply given = given
 lines_give (Err stop.Sink) old new before now s content text reply given = (front_given old new s content text reply given.0, given.1)
@@ -186,32 +187,32 @@ lines_give (Err stop.Memory) old new before now s content text reply given = fro
 lines_give (Err stop.Limit) old new before now s content text reply given = given
 
 -- the certificate of the state that the line leaves is the reply to the line
-pub certificate_gives : (r : Result (Unit {0}) Stop) (old new : Option (List ℕ)) (before now : ℕ) (s : State) (content : List ℕ) → line_of (context_of s) content ≡ Ok line.Cert → CertificateGiven r old new before now (after_line s content) → GivingEnds r old new before now s (content ∷ [])
+pub certificate_gives : (r : Result (Unit {0}) Stop) (old new : Option (List ℕ)) (before now : ℕ) (s : State) (content : List ℕ) → line_of (context_of s) content ≡ Ok line.Cert → CertificateGiven r (sink_at old before) (sink_at new now) (after_line s content) → GivingEnds r (sink_at old before) (sink_at new now) s (content ∷ [])
 certificate_gives r old new before now s content reading given =
-    let F : Result Line Refusal → Type 0 = λ read. CertificateGiven r old new before now (after_read s read) in
-    let here : CertificateGiven r old new before now (counted s) = subst F reading given in
+    let F : Result Line Refusal → Type 0 = λ read. CertificateGiven r (sink_at old before) (sink_at new now) (after_read s read) in
+    let here : CertificateGiven r (sink_at old before) (sink_at new now) (counted s) = subst F reading given in
     let G : Result Line Refusal → Type 0 = λ read. HasAnswer s read here.0 in
     lines_give r old new before now s content here.0 (subst G (sym reading) here.1) here.2
 
 -- the certificate of a version was written
-pub certificate_written : (r : Result (Unit {0}) Stop) (g : Result (Unit {0}) GiveError) (v : Seen) (e : Engine) (old new : Option (List ℕ)) (before now : ℕ) → r ≡ as_stop g → v.graph ≡ e.graph → v.number ≡ length e.vertices → (s : Stated) × IsStatedOf v s × GivesText g old new before now (text_of s) → (text : List ℕ) × IsTextOf (version_of e) text × LinesGiven r old new before now text
+pub certificate_written : (r : Result (Unit {0}) Stop) (g : Result (Unit {0}) GiveError) (v : VersionSeen) (e : Engine) (old new : Option (List ℕ)) (before now : ℕ) → r ≡ as_stop g → v.graph ≡ e.graph → v.number ≡ length e.vertices → (s : Stated) × IsStatedOf v s × GivesText g old new before now (text_of s) → (text : List ℕ) × IsTextOf (version_of e) text × LinesGiven r (sink_at old before) (sink_at new now) text
 certificate_written r g v e old new before now stopped graph number written =
     let same : v ≡ version_of e = λ i. record { number = number i; graph = graph i } in
-    let F : Seen → Type 0 = λ w. IsStatedOf w written.0 in
-    let G : Result (Unit {0}) Stop → Type 0 = λ z. LinesGiven z old new before now (text_of written.0) in
+    let F : VersionSeen → Type 0 = λ w. IsStatedOf w written.0 in
+    let G : Result (Unit {0}) Stop → Type 0 = λ z. LinesGiven z (sink_at old before) (sink_at new now) (text_of written.0) in
     (text_of written.0, (written.0, subst F same written.1, refl), subst G (sym stopped) (at g written.2))
   where
-    at : (h : Result (Unit {0}) GiveError) → GivesText h old new before now (text_of written.0) → LinesGiven (as_stop h) old new before now (text_of written.0)
+    at : (h : Result (Unit {0}) GiveError) → GivesText h old new before now (text_of written.0) → LinesGiven (as_stop h) (sink_at old before) (sink_at new now) (text_of written.0)
     at (Ok u) w = w
     at (Err give.Failed) w = w
     at (Err give.Memory) w = w
 
 -- ---- what a `?` passes on
 
-pub memory_ends : {A : Type 0} (r : Result A Stop) (old : Option (List ℕ)) (before now : ℕ) (s : State) (lines : List (List ℕ)) → IsLawful s → IsErrAnd r (λ e. e ≡ stop.Memory) → GivingEnds r old old before now s lines
+pub memory_ends : {A : Type 0} (r : Result A Stop) (old : Option (List ℕ)) (before now : ℕ) (s : State) (lines : List (List ℕ)) → IsLawfulState s → IsErrAnd r (λ e. e ≡ stop.Memory) → GivingEnds r (sink_at old before) (sink_at old now) s lines
 memory_ends (Ok a) old before now s lines lawful h = absurd h
 memory_ends (Err e) old before now s lines lawful h =
-    let F : Stop → Type 0 = λ e'. StopsAmong e' old old before now s lines in
+    let F : Stop → Type 0 = λ e'. StopsAmong e' (sink_at old before) (sink_at old now) s lines in
     subst F (sym h) ([], front_none s lines lawful, appends_nothing old)
 
 -- ---- call after call
@@ -226,17 +227,17 @@ front_more : (old mid new : Option (List ℕ)) (s : State) (xs ys : List (List �
 front_more old mid new s xs ys h k = (h.0 ++ k.0, front_behind s xs ys h.0 k.0 h.1 k.1, appends_both old mid new h.0 k.0 h.2 k.2)
 
 -- a stop behind replies that were given
-pub stops_behind : (e : Stop) (old mid new : Option (List ℕ)) (first before now : ℕ) (s : State) (xs ys : List (List ℕ)) → Gave old mid s xs → first ≤ before → StopsAmong e mid new before now (after_lines s xs) ys → StopsAmong e old new first now s (xs ++ ys)
+pub stops_behind : (e : Stop) (old mid new : Option (List ℕ)) (first before now : ℕ) (s : State) (xs ys : List (List ℕ)) → Gave old mid s xs → first ≤ before → StopsAmong e (sink_at mid before) (sink_at new now) (after_lines s xs) ys → StopsAmong e (sink_at old first) (sink_at new now) s (xs ++ ys)
 stops_behind stop.Source old mid new first before now s xs ys h l k = k
 stops_behind stop.Sink old mid new first before now s xs ys h l k = (front_more old mid new s xs ys h k.0, rose_later first before now now l k.1 (omega arith))
 stops_behind stop.Memory old mid new first before now s xs ys h l k = front_more old mid new s xs ys h k
 stops_behind stop.Limit old mid new first before now s xs ys h l k = k
 
-front_of_others : (old new : Option (List ℕ)) (s : State) (xs ys : List (List ℕ)) → IsLawful s → GaveFront old new s xs → GaveFront old new s (xs ++ ys)
+front_of_others : (old new : Option (List ℕ)) (s : State) (xs ys : List (List ℕ)) → IsLawfulState s → GaveFront old new s xs → GaveFront old new s (xs ++ ys)
 front_of_others old new s xs ys lawful h = (h.0, front_of_more s xs ys h.0 lawful h.1, h.2)
 
 -- a stop among the first of some lines
-pub stops_among_more : (e : Stop) (old new : Option (List ℕ)) (before now : ℕ) (s : State) (xs ys : List (List ℕ)) → IsLawful s → StopsAmong e old new before now s xs → StopsAmong e old new before now s (xs ++ ys)
+pub stops_among_more : (e : Stop) (old new : Option (List ℕ)) (before now : ℕ) (s : State) (xs ys : List (List ℕ)) → IsLawfulState s → StopsAmong e (sink_at old before) (sink_at new now) s xs → StopsAmong e (sink_at old before) (sink_at new now) s (xs ++ ys)
 stops_among_more stop.Source old new before now s xs ys lawful h = h
 stops_among_more stop.Sink old new before now s xs ys lawful h = (front_of_others old new s xs ys lawful h.0, h.1)
 stops_among_more stop.Memory old new before now s xs ys lawful h = front_of_others old new s xs ys lawful h

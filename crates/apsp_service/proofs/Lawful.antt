@@ -6,7 +6,7 @@ use Rattle.apsp_model.specs.declared.TheConstants.{MOST_VERTICES}
 use Rattle.apsp_model.specs.Graph.{Graph}
 use Rattle.apsp_model.specs.Star.{Star, star_of}
 use Rattle.apsp_model.specs.Command.{Command, Update, graph_of}
-use Rattle.script_reader.specs.Answer.{Fits}
+use Rattle.script_reader.specs.Answer.{FitsContext}
 use Rattle.script_reader.specs.Meaning.{line_of}
 use Rattle.script_reader.specs.Refused.{Refusal}
 use Rattle.script_reader.specs.declared.Line.{Line}
@@ -16,8 +16,8 @@ use Rattle.block_run.specs.declared.asks.Ask.{Ask}
 use Rattle.graph_store.specs.Plan.{Plan, graph_after, with_star, hi_of}
 use Rattle.block_run.specs.Answers.{IsAskOf}
 use Rattle.apsp_service.specs.Blocks.{Block, updates_in}
-use Rattle.apsp_service.specs.Session.{State, opening, context_at, context_of, graph_here, star_with, updated, updated_in, begun_in, asked_in, ended_in, accepted, counted, after_read, after_line, after_lines}
-use Rattle.apsp_service.specs.Lawful.{IsBlockOf, IsLawful}
+use Rattle.apsp_service.specs.Session.{State, first_state, context_at, context_of, graph_here, star_with, updated, updated_in, begun_in, asked_in, ended_in, accepted, counted, after_read, after_line, after_lines}
+use Rattle.apsp_service.specs.Lawful.{IsBlockOf, IsLawfulState}
 
 pub graph_vertices : (n : ℕ) (commands : List Command) → (graph_of n commands).vertices ≡ n
 graph_vertices n [] = refl
@@ -27,20 +27,20 @@ pub after_vertices : (g : Graph) (stars : List Star) → (graph_after g stars).v
 after_vertices g [] = refl
 after_vertices g (s ∷ stars) = after_vertices (star_of g s) stars
 
-pub opening_lawful : (readers : Option ℕ) (smooth : Bool) → IsLawful (opening readers smooth)
+pub opening_lawful : (readers : Option ℕ) (smooth : Bool) → IsLawfulState (first_state readers smooth)
 opening_lawful readers smooth = record { most = omega arith; block = tt; live = λ none. refl }
 
 -- the block that is open
-pub block_of : (s : State) (b : Block) → IsLawful s → s.block ≡ Some b → IsBlockOf s.vertices s.commands b
+pub block_of : (s : State) (b : Block) → IsLawfulState s → s.block ≡ Some b → IsBlockOf s.vertices s.commands b
 block_of s b h e = let F : Option Block → Type 0 = λ o. IfSome o (IsBlockOf s.vertices s.commands) in subst F e h.block
 
 some_block : (s : State) (b : Block) → s.block ≡ Some b → s.block ≡ None → ⊥
 some_block s b e none = let k : Some b ≡ None = sym e ∙ none in cc
 
-begun_lawful : (s : State) → IsLawful s → IsLawful (begun_in s s.readers)
+begun_lawful : (s : State) → IsLawfulState s → IsLawfulState (begun_in s s.readers)
 begun_lawful s h = at s.readers refl
   where
-    at : (r : Option ℕ) → s.readers ≡ r → IsLawful (begun_in s r)
+    at : (r : Option ℕ) → s.readers ≡ r → IsLawfulState (begun_in s r)
     at None e = h
     at (Some n) e = record {
       most = h.most;
@@ -48,7 +48,7 @@ begun_lawful s h = at s.readers refl
       live = λ none. absurd (let k : Some n ≡ None = sym e ∙ none in cc);
     }
 
-pub here_vertices : (s : State) → IsLawful s → (graph_here s s.block).vertices ≡ s.vertices
+pub here_vertices : (s : State) → IsLawfulState s → (graph_here s s.block).vertices ≡ s.vertices
 here_vertices s h = at s.block refl
   where
     at : (o : Option Block) → s.block ≡ o → (graph_here s o).vertices ≡ s.vertices
@@ -58,10 +58,10 @@ here_vertices s h = at s.block refl
 more_stars : (p : Plan) (star : Star) (ask : Ask) → IsAskOf p ask → IsAskOf (with_star p star) ask
 more_stars p star ask h = record { from = h.from; to = h.to; since = omega (arith, h.since, length-append p.stars (star ∷ [])) }
 
-pub updated_lawful : (s : State) (star : Star) → IsLawful s → star.vertices ≡ s.vertices → IsLawful (updated s star)
+pub updated_lawful : (s : State) (star : Star) → IsLawfulState s → star.vertices ≡ s.vertices → IsLawfulState (updated s star)
 updated_lawful s star h same = at s.block refl
   where
-    at : (o : Option Block) → s.block ≡ o → IsLawful (updated_in s o star)
+    at : (o : Option Block) → s.block ≡ o → IsLawfulState (updated_in s o star)
     at None e = record { most = h.most; block = let F : Option Block → Type 0 = λ o. IfSome o (IsBlockOf s.vertices (Update star ∷ s.commands)) in subst F (sym e) tt; live = h.live }
     at (Some b) e =
         let k = block_of s b h e in
@@ -77,10 +77,10 @@ updated_lawful s star h same = at s.block refl
           };
         }
 
-asked_lawful : (s : State) (ask : Ask) → IsLawful s → ask.x < s.vertices → ask.y < s.vertices → ask.since ≤ updates_in s.block → IsLawful (asked_in s s.block ask)
+asked_lawful : (s : State) (ask : Ask) → IsLawfulState s → ask.x < s.vertices → ask.y < s.vertices → ask.since ≤ updates_in s.block → IsLawfulState (asked_in s s.block ask)
 asked_lawful s ask h x y since = at s.block refl since
   where
-    at : (o : Option Block) → s.block ≡ o → ask.since ≤ updates_in o → IsLawful (asked_in s o ask)
+    at : (o : Option Block) → s.block ≡ o → ask.since ≤ updates_in o → IsLawfulState (asked_in s o ask)
     at None e l = h
     at (Some b) e l =
         let k = block_of s b h e in
@@ -96,14 +96,14 @@ asked_lawful s ask h x y since = at s.block refl since
           };
         }
 
-ended_lawful : (s : State) → IsLawful s → IsLawful (ended_in s s.block)
+ended_lawful : (s : State) → IsLawfulState s → IsLawfulState (ended_in s s.block)
 ended_lawful s h = at s.block
   where
-    at : (o : Option Block) → IsLawful (ended_in s o)
+    at : (o : Option Block) → IsLawfulState (ended_in s o)
     at None = h
     at (Some b) = record { most = h.most; block = tt; live = λ none. refl }
 
-pub accepted_lawful : (s : State) (l : Line) → IsLawful s → (readers : Option ℕ) → Fits (context_at s.vertices readers s.block) l → IsLawful (accepted s l)
+pub accepted_lawful : (s : State) (l : Line) → IsLawfulState s → (readers : Option ℕ) → FitsContext (context_at s.vertices readers s.block) l → IsLawfulState (accepted s l)
 accepted_lawful s line.Nothing h readers f = h
 accepted_lawful s (line.Vertices n) h readers f = record { most = f.1.most; block = tt; live = λ none. refl }
 accepted_lawful s (line.Star star) h readers f = updated_lawful s star h f.0
@@ -119,14 +119,14 @@ accepted_lawful s line.Stats h readers f = h
 accepted_lawful s (line.Age list) h readers f = h
 accepted_lawful s line.Cert h readers f = h
 
-pub line_lawful : (s : State) (bytes : List ℕ) → IsLawful s → IsLawful (after_line s bytes)
+pub line_lawful : (s : State) (bytes : List ℕ) → IsLawfulState s → IsLawfulState (after_line s bytes)
 line_lawful s bytes h = at (line_of (context_of s) bytes) refl
   where
-    at : (r : Result Line Refusal) → line_of (context_of s) bytes ≡ r → IsLawful (after_read s r)
+    at : (r : Result Line Refusal) → line_of (context_of s) bytes ≡ r → IsLawfulState (after_read s r)
     at (Ok l) e = accepted_lawful (counted s) l (record { most = h.most; block = h.block; live = h.live }) s.readers (accepted_fits (context_of s) bytes l h.most e)
     at (Err refusal) e = record { most = h.most; block = h.block; live = h.live }
 
-pub lines_lawful : (s : State) (lines : List (List ℕ)) → IsLawful s → IsLawful (after_lines s lines)
+pub lines_lawful : (s : State) (lines : List (List ℕ)) → IsLawfulState s → IsLawfulState (after_lines s lines)
 lines_lawful s [] h = h
 lines_lawful s (bytes ∷ lines) h = lines_lawful (after_line s bytes) lines (line_lawful s bytes h)
 

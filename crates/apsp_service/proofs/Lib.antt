@@ -1,3 +1,4 @@
+pub mod Seen
 pub mod Lines
 pub mod Lawful
 pub mod BlockAnswered

@@ -8,7 +8,7 @@ use Rattle.apsp_model.specs.Counts.{Counts}
 use Rattle.apsp_model.specs.Stated.{Stated}
 use Rattle.fixup_math.proofs.Uniques.{counts_unique}
 use Rattle.history_engine.proofs.Existing.{counts_exist}
-use Rattle.version_face.specs.Seen.{Seen}
+use Rattle.version_face.specs.Seen.{VersionSeen}
 use Rattle.certificate.specs.Giving.{IsStatedOf}
 use Rattle.certificate.proofs.Versions.{value_of, value_is}
 use Rattle.certificate.proofs.VersionLaws.{one_stated_of}
@@ -18,7 +18,7 @@ use Rattle.load_run.specs.Report.{IsReport, dist_of}
 use Rattle.apsp_service.specs.Load.{load_text, IsLoadReply}
 
 -- the last version, of this number
-last_version : ℕ → ℕ → ℕ → Seen
+last_version : ℕ → ℕ → ℕ → VersionSeen
 last_version n seed number = record { number = number; graph = graph_of n (load_updates n seed) }
 
 pub load_exists : (n seed : ℕ) → (text : List ℕ) × IsLoadReply n seed text

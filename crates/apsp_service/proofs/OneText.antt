@@ -18,7 +18,7 @@ use Rattle.apsp_service.specs.declared.words.Mode.TheVariants as mode
 use Rattle.apsp_service.specs.Age.{IsBirth}
 use Rattle.apsp_service.specs.Distance.{IsDistance, AreDistances}
 use Rattle.apsp_service.specs.Replies.{dist_text, row_text, path_text, stats_text, age_text}
-use Rattle.apsp_service.specs.Session.{State, HasReply, HasBlockReply, HasLineReply, HasAnswer, HaveReplies, HaveAllReplies, HasSession, HasOneText, HasOneStatus, has_blocks, opening, ending_of, accepted, counted, star_with, graph_here, updated_in, begun_in, asked_in, ended_in, after_read, after_line, after_lines, context_of, status_of}
+use Rattle.apsp_service.specs.Session.{State, HasReply, HasBlockReply, HasLineReply, HasAnswer, HaveReplies, HaveAllReplies, HasSession, HasOneText, HasOneStatus, has_blocks, first_state, ending_of, accepted, counted, star_with, graph_here, updated_in, begun_in, asked_in, ended_in, after_read, after_line, after_lines, context_of, status_of}
 use Rattle.certificate.specs.Grammar.{text_of}
 use Rattle.certificate.proofs.VersionLaws.{one_stated_of}
 use Rattle.apsp_service.specs.Certificate.{version_after}
@@ -26,7 +26,7 @@ use Rattle.apsp_service.proofs.Checked.{checked_exists, one_checked}
 use Rattle.apsp_model.specs.Star.{Star}
 use Rattle.block_run.specs.declared.asks.Ask.{Ask}
 use Rattle.apsp_service.specs.Blocks.{Block}
-use Rattle.apsp_service.specs.Lawful.{IsLawful}
+use Rattle.apsp_service.specs.Lawful.{IsLawfulState}
 use Rattle.apsp_service.proofs.Lawful.{opening_lawful}
 use Rattle.apsp_service.proofs.Replied.{replies_exist}
 use Rattle.apsp_service.proofs.Loads.{load_exists, one_load}
@@ -166,7 +166,7 @@ replies_are s (bytes ∷ lines) t u none h k =
 
 -- ---- the laws
 
-some_text : (s : State) (lines : List (List ℕ)) → IsLawful s → (t : List ℕ) × HaveAllReplies s lines t
+some_text : (s : State) (lines : List (List ℕ)) → IsLawfulState s → (t : List ℕ) × HaveAllReplies s lines t
 some_text s lines h = let r = replies_exist s lines h in (r.0 ++ ending_of (after_lines s lines), (r.0, r.1, refl))
 
 all_replies_are : (s : State) (lines : List (List ℕ)) (t u : List ℕ) → s.readers ≡ None → HaveAllReplies s lines t → HaveAllReplies s lines u → t ≡ u
@@ -178,7 +178,7 @@ record HasOne (start : State) (bytes : List ℕ) : Type 0 where
   session : HasSession start bytes text (status_of (after_lines start (lines_of bytes)))
   only : start.readers ≡ None → (other : List ℕ) (ended : ℕ) → HasSession start bytes other ended → other ≡ text
 
-one_over : (start : State) (bytes : List ℕ) → IsLawful start → HasOne start bytes
+one_over : (start : State) (bytes : List ℕ) → IsLawfulState start → HasOne start bytes
 one_over start bytes h =
     let text = some_text start (lines_of bytes) h in
     record {
@@ -189,7 +189,7 @@ one_over start bytes h =
 
 pub one_text : (m : Mode) (bytes : List ℕ) → has_blocks m ≡ false → HasOneText m bytes
 one_text (mode.Run workers smooth) bytes none =
-    let one = one_over (opening None smooth) bytes (opening_lawful None smooth) in
+    let one = one_over (first_state None smooth) bytes (opening_lawful None smooth) in
     record { text = one.text; status = _; session = one.session; only = λ other ended k. (one.only refl other ended k, k.1) }
 one_text (mode.Live workers readers slots smooth) bytes none = cc
 one_text mode.Check bytes none =
@@ -201,10 +201,10 @@ one_text (mode.Load n seed workers) bytes none =
 
 pub one_status : (m : Mode) (bytes : List ℕ) → HasOneStatus m bytes
 one_status (mode.Run workers smooth) bytes =
-    let one = one_over (opening None smooth) bytes (opening_lawful None smooth) in
+    let one = one_over (first_state None smooth) bytes (opening_lawful None smooth) in
     record { text = one.text; status = _; session = one.session; only = λ other ended k. k.1 }
 one_status (mode.Live workers readers slots smooth) bytes =
-    let one = one_over (opening (Some readers) smooth) bytes (opening_lawful (Some readers) smooth) in
+    let one = one_over (first_state (Some readers) smooth) bytes (opening_lawful (Some readers) smooth) in
     record { text = one.text; status = _; session = one.session; only = λ other ended k. k.1 }
 one_status mode.Check bytes =
     let c = checked_exists bytes in

@@ -4,14 +4,15 @@ use Rattle.std.specs.Prelude.{◌↔◌, Option, Some, None, Result, Ok, Err, If
 use Rattle.std.specs.Io.KnownBytes.{Consumes, IsAtEnd, Appends}
 use Rattle.apsp_io.specs.Streams.{Rose}
 use Rattle.script_reader.specs.Input.{lines_of, whole_lines}
+use Rattle.apsp_service.specs.Streams.{Streams}
 use Rattle.apsp_service.specs.declared.words.Mode.{Mode}
 use Rattle.apsp_service.specs.declared.words.Mode.TheVariants as mode
 use Rattle.apsp_service.specs.declared.stop.Stop.{Stop}
 use Rattle.apsp_service.specs.declared.stop.Stop.TheVariants as stop
 use Rattle.apsp_service.specs.declared.run.TheConstants.{MOST_INPUT}
-use Rattle.apsp_service.specs.Session.{State, Session, HasSession, HasWholeReplies, HaveReplies, opening, has_blocks, has_refused, after_lines, status_of}
+use Rattle.apsp_service.specs.Session.{State, Session, HasSession, HasWholeReplies, HaveReplies, first_state, has_blocks, has_refused, after_lines, status_of}
 use Rattle.apsp_service.specs.Running.{RunEnds, RanToEnd, StoppedAfter, StoppedAmong}
-use Rattle.apsp_service.specs.Outcome.{status_after, IsStatus, IsCheck, IsLoad, IsAnswered, IsStoppedEarly, IsCutShort, TookMoreThan, IsComplete, ReadToEnd, SaysRefused, IsOutcome}
+use Rattle.apsp_service.specs.Outcome.{status_after, IsStatus, IsCheck, IsLoad, IsAnswered, IsStoppedEarly, GotFront, IsCutShort, TookMoreThan, IsComplete, ReadToEnd, IsOutcome}
 use Rattle.apsp_service.specs.Ending.{IsShort, EndsAs}
 use Rattle.apsp_service.proofs.Checked.{one_checked}
 use Rattle.apsp_service.proofs.Lines.{whole_lines_is}
@@ -54,10 +55,20 @@ reads_or_not (mode.Load n seed workers) = inr (λ bytes input text status h. h)
 
 -- ---- the outcome of each end
 
-module _ (m : Mode) (left left_now held held_now : Option (List ℕ)) (before now sink_before sink_now : ℕ) where
+module _ (m : Mode) (before now : Streams) where
   if_some : (P : List ℕ → Type 0) (o : Option (List ℕ)) → ((xs : List ℕ) → o ≡ Some xs → P xs) → IfSome o P
   if_some P None h = tt
   if_some P (Some xs) h = h xs refl
+
+  -- what is said of an input that has a refused line
+  abbrev SaidOfRefused : ℕ → List ℕ → Type 0
+  SaidOfRefused status input =
+      (text : List ℕ) → Session m input text 1 → (status ≡ 1) ⊎ (TookMoreThan MOST_INPUT before.source.left now.source.left ⊎ (Rose before.source.faults now.source.faults ⊎ (Rose before.sink.faults now.sink.faults ⊎ (status ≡ 5))))
+
+  -- what is said of an input that is not too long
+  abbrev SaidOfWhole : ℕ → List ℕ → Type 0
+  SaidOfWhole status input =
+      length input ≤ MOST_INPUT → (Rose before.source.faults now.source.faults → ⊥) → (Rose before.sink.faults now.sink.faults → ⊥) → (status ≡ 5) ⊎ IsComplete m input before.sink.held now.sink.held status
 
   abbrev ended : Bool → ℕ
   ended refused = status_after (Ok refused)
@@ -77,98 +88,98 @@ module _ (m : Mode) (left left_now held held_now : Option (List ℕ)) (before no
   no_failure refused h = elim h [ inl e ↦ no_more refused 3 (omega arith) e | inr e ↦ neither refused 5 6 (omega arith) (omega arith) e ]
 
   -- in the mode that checks nothing was given before an early stop
-  early_nothing : IsCheck m → IsStoppedEarly m left left_now held held_now → Appends held held_now []
+  early_nothing : IsCheck m → IsStoppedEarly m before now → Appends before.sink.held now.sink.held []
   early_nothing check s = at m check s.replies
     where
-      at : (n : Mode) → IsCheck n → HasWholeReplies n (take MOST_INPUT s.bytes) s.text → Appends held held_now []
+      at : (n : Mode) → IsCheck n → HasWholeReplies n (take MOST_INPUT s.bytes) s.text → Appends before.sink.held now.sink.held []
       at (mode.Run workers smooth) check replies = absurd check
       at (mode.Live workers readers slots smooth) check replies = absurd check
       at (mode.Load n seed workers) check replies = absurd check
-      at mode.Check check replies = let F : List ℕ → Type 0 = λ t. Appends held held_now t in subst F replies s.given
+      at mode.Check check replies = let F : List ℕ → Type 0 = λ t. Appends before.sink.held now.sink.held t in subst F replies s.given
 
-  session_is : (status : ℕ) (a : IsAnswered m left left_now held held_now status) (input : List ℕ) → left ≡ Some input → (text : List ℕ) × Appends held held_now text × Session m input text status
+  session_is : (status : ℕ) (a : IsAnswered m before now status) (input : List ℕ) → before.source.left ≡ Some input → (text : List ℕ) × Appends before.sink.held now.sink.held text × Session m input text status
   session_is status a input told = elim (reads_or_not m) [
     | inl reads ↦
-        let F : Option (List ℕ) → Type 0 = λ o. Consumes o left_now a.bytes in
-        let same : input ≡ a.bytes = all_taken input left_now a.bytes (subst F told a.taken) (a.last reads) in
+        let F : Option (List ℕ) → Type 0 = λ o. Consumes o now.source.left a.bytes in
+        let same : input ≡ a.bytes = all_taken input now.source.left a.bytes (subst F told a.taken) (a.last reads) in
         let G : List ℕ → Type 0 = λ z. Session m z a.text status in
         (a.text, a.given, subst G (sym same) a.session)
     | inr free ↦ (a.text, a.given, free a.bytes input a.text status a.session)
   ]
 
-  ok_outcome : (refused : Bool) (a : IsAnswered m left left_now held held_now (ended refused)) → length a.bytes ≤ MOST_INPUT → IsOutcome m left left_now held held_now before now sink_before sink_now (ended refused)
+  ok_outcome : (refused : Bool) (a : IsAnswered m before now (ended refused)) → length a.bytes ≤ MOST_INPUT → IsOutcome m before now (ended refused)
   ok_outcome refused a few = record {
     statuses = inl (read_to_end refused);
     answered = λ e. a;
     source_failed = λ e. absurd (no_more refused 3 (omega arith) e);
     sink_failed = λ e. absurd (no_more refused 4 (omega arith) e);
     too_much = λ e. absurd (no_more refused 6 (omega arith) e);
-    says_too_much = λ more. absurd (took_few MOST_INPUT left left_now a.bytes a.taken few more);
-    says_refused = if_some (λ input. (text : List ℕ) → Session m input text 1 → SaysRefused (ended refused) left left_now before now sink_before sink_now) left
+    says_too_much = λ more. absurd (took_few MOST_INPUT before.source.left now.source.left a.bytes a.taken few more);
+    says_refused = if_some (SaidOfRefused (ended refused)) before.source.left
         (λ input told text session. let s = session_is (ended refused) a input told in inl (one_status m input s.0 text (ended refused) 1 s.2 session));
     stopped_early = λ e. absurd (neither refused 3 6 (omega arith) (omega arith) e);
     cut_short = λ e. absurd (neither refused 4 5 (omega arith) (omega arith) e);
-    complete = if_some (λ input. length input ≤ MOST_INPUT → (Rose before now → ⊥) → (Rose sink_before sink_now → ⊥) → (ended refused ≡ 5) ⊎ IsComplete m input held held_now (ended refused)) left
+    complete = if_some (SaidOfWhole (ended refused)) before.source.left
         (λ input told few s k. let s = session_is (ended refused) a input told in inr (record { to_end = read_to_end refused; text = s.0; given = s.1; session = s.2 }));
     nothing_written = λ check e. absurd (no_failure refused e);
     takes = (a.bytes, a.taken, omega (arith, few));
   }
 
-  source_outcome : (s : IsStoppedEarly m left left_now held held_now) → length s.bytes ≤ MOST_INPUT → Rose before now → IsOutcome m left left_now held held_now before now sink_before sink_now 3
+  source_outcome : (s : IsStoppedEarly m before now) → length s.bytes ≤ MOST_INPUT → Rose before.source.faults now.source.faults → IsOutcome m before now 3
   source_outcome s few rose = record {
     statuses = inr (inl refl);
     answered = λ e. absurd (elim e [ inl z ↦ omega (arith, z) | inr o ↦ omega (arith, o) ]);
     source_failed = λ e. rose;
     sink_failed = λ e. absurd (omega (arith, e));
     too_much = λ e. absurd (omega (arith, e));
-    says_too_much = λ more. absurd (took_few MOST_INPUT left left_now s.bytes s.taken few more);
-    says_refused = if_some (λ input. (text : List ℕ) → Session m input text 1 → SaysRefused 3 left left_now before now sink_before sink_now) left (λ input told text session. inr (inr (inl rose)));
+    says_too_much = λ more. absurd (took_few MOST_INPUT before.source.left now.source.left s.bytes s.taken few more);
+    says_refused = if_some (SaidOfRefused 3) before.source.left (λ input told text session. inr (inr (inl rose)));
     stopped_early = λ e. s;
     cut_short = λ e. absurd (elim e [ inl z ↦ omega (arith, z) | inr o ↦ omega (arith, o) ]);
-    complete = if_some (λ input. length input ≤ MOST_INPUT → (Rose before now → ⊥) → (Rose sink_before sink_now → ⊥) → (3 ≡ 5) ⊎ IsComplete m input held held_now 3) left (λ input told l no k. absurd (no rose));
+    complete = if_some (SaidOfWhole 3) before.source.left (λ input told l no k. absurd (no rose));
     nothing_written = λ check e. early_nothing check s;
     takes = (s.bytes, s.taken, omega (arith, few));
   }
 
-  limit_outcome : (s : IsStoppedEarly m left left_now held held_now) → length s.bytes ≡ MOST_INPUT + 1 → IsOutcome m left left_now held held_now before now sink_before sink_now 6
+  limit_outcome : (s : IsStoppedEarly m before now) → length s.bytes ≡ MOST_INPUT + 1 → IsOutcome m before now 6
   limit_outcome s many = record {
     statuses = inr (inr (inr (inr refl)));
     answered = λ e. absurd (elim e [ inl z ↦ omega (arith, z) | inr o ↦ omega (arith, o) ]);
     source_failed = λ e. absurd (omega (arith, e));
     sink_failed = λ e. absurd (omega (arith, e));
-    too_much = λ e. took_many MOST_INPUT left left_now s.bytes s.taken many;
+    too_much = λ e. took_many MOST_INPUT before.source.left now.source.left s.bytes s.taken many;
     says_too_much = λ more. inl refl;
-    says_refused = if_some (λ input. (text : List ℕ) → Session m input text 1 → SaysRefused 6 left left_now before now sink_before sink_now) left (λ input told text session. inr (inl (more_than input told)));
+    says_refused = if_some (SaidOfRefused 6) before.source.left (λ input told text session. inr (inl (more_than input told)));
     stopped_early = λ e. s;
     cut_short = λ e. absurd (elim e [ inl z ↦ omega (arith, z) | inr o ↦ omega (arith, o) ]);
-    complete = if_some (λ input. length input ≤ MOST_INPUT → (Rose before now → ⊥) → (Rose sink_before sink_now → ⊥) → (6 ≡ 5) ⊎ IsComplete m input held held_now 6) left (λ input told l no k. absurd (too_long input told l));
+    complete = if_some (SaidOfWhole 6) before.source.left (λ input told l no k. absurd (too_long input told l));
     nothing_written = λ check e. early_nothing check s;
     takes = (s.bytes, s.taken, omega (arith, many));
   }
     where
-      more_than : (input : List ℕ) → left ≡ Some input → TookMoreThan MOST_INPUT left left_now
+      more_than : (input : List ℕ) → before.source.left ≡ Some input → TookMoreThan MOST_INPUT before.source.left now.source.left
       more_than input told =
-          let F : Option (List ℕ) → Type 0 = λ o. IfSome o (λ _. TookMoreThan MOST_INPUT left left_now) in
-          subst F told (took_many MOST_INPUT left left_now s.bytes s.taken many)
+          let F : Option (List ℕ) → Type 0 = λ o. IfSome o (λ _. TookMoreThan MOST_INPUT before.source.left now.source.left) in
+          subst F told (took_many MOST_INPUT before.source.left now.source.left s.bytes s.taken many)
 
-      too_long : (input : List ℕ) → left ≡ Some input → length input ≤ MOST_INPUT → ⊥
+      too_long : (input : List ℕ) → before.source.left ≡ Some input → length input ≤ MOST_INPUT → ⊥
       too_long input told l =
-          let F : Option (List ℕ) → Type 0 = λ o. Consumes o left_now s.bytes in
-          let t = taken_is input left_now s.bytes (subst F told s.taken) in
+          let F : Option (List ℕ) → Type 0 = λ o. Consumes o now.source.left s.bytes in
+          let t = taken_is input now.source.left s.bytes (subst F told s.taken) in
           omega (arith, ap length t.2, length-append s.bytes t.0, many)
 
   -- a front of what the session replies
-  short_of : IsShort m left left_now held held_now → IfSome left (λ input. IsCutShort m input held held_now)
-  short_of s = if_some (λ input. IsCutShort m input held held_now) left short
+  short_of : IsShort m before now → IsCutShort m before now
+  short_of s = if_some (λ input. GotFront m input before.sink.held now.sink.held) before.source.left short
     where
-      short : (input : List ℕ) → left ≡ Some input → IsCutShort m input held held_now
+      short : (input : List ℕ) → before.source.left ≡ Some input → GotFront m input before.sink.held now.sink.held
       short input told =
-          let F : Option (List ℕ) → Type 0 = λ o. Consumes o left_now s.bytes in
-          let t = taken_is input left_now s.bytes (subst F told s.taken) in
-          let G : List ℕ → Type 0 = λ z. IsCutShort m z held held_now in
+          let F : Option (List ℕ) → Type 0 = λ o. Consumes o now.source.left s.bytes in
+          let t = taken_is input now.source.left s.bytes (subst F told s.taken) in
+          let G : List ℕ → Type 0 = λ z. GotFront m z before.sink.held now.sink.held in
           subst G (sym t.2) (s.front t.0 t.1)
 
-  sink_outcome : IsShort m left left_now held held_now → Rose sink_before sink_now → IsOutcome m left left_now held held_now before now sink_before sink_now 4
+  sink_outcome : IsShort m before now → Rose before.sink.faults now.sink.faults → IsOutcome m before now 4
   sink_outcome s rose = record {
     statuses = inr (inr (inl refl));
     answered = λ e. absurd (elim e [ inl z ↦ omega (arith, z) | inr o ↦ omega (arith, o) ]);
@@ -176,15 +187,15 @@ module _ (m : Mode) (left left_now held held_now : Option (List ℕ)) (before no
     sink_failed = λ e. rose;
     too_much = λ e. absurd (omega (arith, e));
     says_too_much = λ more. inr (inl (refl, rose));
-    says_refused = if_some (λ input. (text : List ℕ) → Session m input text 1 → SaysRefused 4 left left_now before now sink_before sink_now) left (λ input told text session. inr (inr (inr (inl rose))));
+    says_refused = if_some (SaidOfRefused 4) before.source.left (λ input told text session. inr (inr (inr (inl rose))));
     stopped_early = λ e. absurd (elim e [ inl z ↦ omega (arith, z) | inr o ↦ omega (arith, o) ]);
     cut_short = λ e. short_of s;
-    complete = if_some (λ input. length input ≤ MOST_INPUT → (Rose before now → ⊥) → (Rose sink_before sink_now → ⊥) → (4 ≡ 5) ⊎ IsComplete m input held held_now 4) left (λ input told l no k. absurd (k rose));
+    complete = if_some (SaidOfWhole 4) before.source.left (λ input told l no k. absurd (k rose));
     nothing_written = λ check e. absurd (elim e [ inl z ↦ omega (arith, z) | inr o ↦ elim o [ inl z ↦ omega (arith, z) | inr z ↦ omega (arith, z) ] ]);
     takes = (s.bytes, s.taken, s.few);
   }
 
-  memory_outcome : IsShort m left left_now held held_now → (IsCheck m → Appends held held_now []) → IsOutcome m left left_now held held_now before now sink_before sink_now 5
+  memory_outcome : IsShort m before now → (IsCheck m → Appends before.sink.held now.sink.held []) → IsOutcome m before now 5
   memory_outcome s nothing = record {
     statuses = inr (inr (inr (inl refl)));
     answered = λ e. absurd (elim e [ inl z ↦ omega (arith, z) | inr o ↦ omega (arith, o) ]);
@@ -192,24 +203,24 @@ module _ (m : Mode) (left left_now held held_now : Option (List ℕ)) (before no
     sink_failed = λ e. absurd (omega (arith, e));
     too_much = λ e. absurd (omega (arith, e));
     says_too_much = λ more. inr (inr refl);
-    says_refused = if_some (λ input. (text : List ℕ) → Session m input text 1 → SaysRefused 5 left left_now before now sink_before sink_now) left (λ input told text session. inr (inr (inr (inr refl))));
+    says_refused = if_some (SaidOfRefused 5) before.source.left (λ input told text session. inr (inr (inr (inr refl))));
     stopped_early = λ e. absurd (elim e [ inl z ↦ omega (arith, z) | inr o ↦ omega (arith, o) ]);
     cut_short = λ e. short_of s;
-    complete = if_some (λ input. length input ≤ MOST_INPUT → (Rose before now → ⊥) → (Rose sink_before sink_now → ⊥) → (5 ≡ 5) ⊎ IsComplete m input held held_now 5) left (λ input told l no k. inl refl);
+    complete = if_some (SaidOfWhole 5) before.source.left (λ input told l no k. inl refl);
     nothing_written = λ check e. nothing check;
     takes = (s.bytes, s.taken, s.few);
   }
 
-  outcome_of : (r : Result Bool Stop) → EndsAs m r left left_now held held_now before now sink_before sink_now → IsOutcome m left left_now held held_now before now sink_before sink_now (status_after r)
+  outcome_of : (r : Result Bool Stop) → EndsAs m r before now → IsOutcome m before now (status_after r)
   outcome_of (Ok refused) h = ok_outcome refused h.0 h.1
   outcome_of (Err stop.Source) h = source_outcome h.0 h.1 h.2
   outcome_of (Err stop.Sink) h = sink_outcome h.0 h.1
   outcome_of (Err stop.Memory) h = memory_outcome h.0 h.1
   outcome_of (Err stop.Limit) h = limit_outcome h.0 h.1
 
-  pub outcome_at : (status : ℕ) (r : Result Bool Stop) → status ≡ status_after r → EndsAs m r left left_now held held_now before now sink_before sink_now → IsOutcome m left left_now held held_now before now sink_before sink_now status
+  pub outcome_at : (status : ℕ) (r : Result Bool Stop) → status ≡ status_after r → EndsAs m r before now → IsOutcome m before now status
   outcome_at status r is h =
-      let F : ℕ → Type 0 = λ z. IsOutcome m left left_now held held_now before now sink_before sink_now z in
+      let F : ℕ → Type 0 = λ z. IsOutcome m before now z in
       subst F (sym is) (outcome_of r h)
 
 -- ---- a run over lines
@@ -227,19 +238,19 @@ pub record IsOverLines (m : Mode) (start : State) : Type 0 where
   no_check : IsCheck m → ⊥
   no_load : IsLoad m → ⊥
 
-pub run_over : (workers : ℕ) (smooth : Bool) → IsOverLines (mode.Run workers smooth) (opening None smooth)
+pub run_over : (workers : ℕ) (smooth : Bool) → IsOverLines (mode.Run workers smooth) (first_state None smooth)
 run_over workers smooth = record { session = λ bytes text status h. h; whole = λ bytes text h. h; no_check = λ check. check; no_load = λ load. load }
 
-pub live_over : (workers readers slots : ℕ) (smooth : Bool) → IsOverLines (mode.Live workers readers slots smooth) (opening (Some readers) smooth)
+pub live_over : (workers readers slots : ℕ) (smooth : Bool) → IsOverLines (mode.Live workers readers slots smooth) (first_state (Some readers) smooth)
 live_over workers readers slots smooth = record { session = λ bytes text status h. h; whole = λ bytes text h. h; no_check = λ check. check; no_load = λ load. load }
 
-module _ (m : Mode) (start : State) (over : IsOverLines m start) (left left_now held held_now : Option (List ℕ)) (before now sink_before sink_now : ℕ) where
-  early_of : (bytes : List ℕ) → StoppedAfter start left left_now held held_now bytes → IsStoppedEarly m left left_now held held_now
+module _ (m : Mode) (start : State) (over : IsOverLines m start) (before now : Streams) where
+  early_of : (bytes : List ℕ) → StoppedAfter start before now bytes → IsStoppedEarly m before now
   early_of bytes s =
       let F : List (List ℕ) → Type 0 = λ ls. HaveReplies start ls s.gave.0 in
       record { bytes = bytes; text = s.gave.0; taken = s.taken; given = s.gave.2; replies = over.whole (take MOST_INPUT bytes) s.gave.0 (subst F (sym (whole_lines_is (take MOST_INPUT bytes))) s.gave.1) }
 
-  short_run : (bytes : List ℕ) → StoppedAmong start left left_now held held_now bytes → IsShort m left left_now held held_now
+  short_run : (bytes : List ℕ) → StoppedAmong start before now bytes → IsShort m before now
   short_run bytes s = record {
     bytes = bytes;
     taken = s.taken;
@@ -251,7 +262,7 @@ module _ (m : Mode) (start : State) (over : IsOverLines m start) (left left_now 
         record { front = f.0; rest = f.1.0; status = status; given = f.2; session = over.session whole (f.0 ++ f.1.0) status (f.1.1, refl) };
   }
 
-  pub run_ends : (r : Result Bool Stop) → RunEnds start r left left_now held held_now before now sink_before sink_now → EndsAs m r left left_now held held_now before now sink_before sink_now
+  pub run_ends : (r : Result Bool Stop) → RunEnds start r before now → EndsAs m r before now
   unfolding early_of
   run_ends (Ok refused) h =
       let r = h.1 in
@@ -271,8 +282,8 @@ of_words P read given m is same h =
     subst F (sym is ∙ same) h
 
 -- the outcome of the mode `live`
-pub live_outcome : (workers readers slots : ℕ) (smooth : Bool) (start : State) (left left_now held held_now : Option (List ℕ)) (before now sink_before sink_now status : ℕ) (r : Result Bool Stop) → start ≡ opening (Some readers) smooth → status ≡ status_after r → RunEnds start r left left_now held held_now before now sink_before sink_now → IsOutcome (mode.Live workers readers slots smooth) left left_now held held_now before now sink_before sink_now status
-live_outcome workers readers slots smooth start left left_now held held_now before now sink_before sink_now status r same is h =
+pub live_outcome : (workers readers slots : ℕ) (smooth : Bool) (start : State) (before now : Streams) (status : ℕ) (r : Result Bool Stop) → start ≡ first_state (Some readers) smooth → status ≡ status_after r → RunEnds start r before now → IsOutcome (mode.Live workers readers slots smooth) before now status
+live_outcome workers readers slots smooth start before now status r same is h =
     let m = mode.Live workers readers slots smooth in
-    let F : State → Type 0 = λ s. RunEnds s r left left_now held held_now before now sink_before sink_now in
-    outcome_at m left left_now held held_now before now sink_before sink_now status r is (run_ends m (opening (Some readers) smooth) (live_over workers readers slots smooth) left left_now held held_now before now sink_before sink_now r (subst F same h))
+    let F : State → Type 0 = λ s. RunEnds s r before now in
+    outcome_at m before now status r is (run_ends m (first_state (Some readers) smooth) (live_over workers readers slots smooth) before now r (subst F same h))

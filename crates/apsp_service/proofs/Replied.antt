@@ -21,7 +21,7 @@ use Rattle.script_reader.specs.declared.Line.{Line}
 use Rattle.script_reader.specs.declared.Line.TheVariants as line
 use Rattle.apsp_service.specs.Session.{State, HasReply, HasLineReply, HasAnswer, LineHasReply, HaveReplies, after_line, after_lines, context_of}
 use Rattle.apsp_service.specs.Giving.{IsFrontOfReplies}
-use Rattle.apsp_service.specs.Lawful.{IsLawful}
+use Rattle.apsp_service.specs.Lawful.{IsLawfulState}
 use Rattle.apsp_service.proofs.Lawful.{line_lawful, lines_lawful}
 use Rattle.apsp_service.proofs.BlockAnswered.{block_reply_exists}
 
@@ -85,7 +85,7 @@ reply_exists n smooth commands line.Stats = let c = counts_exist n smooth comman
 reply_exists n smooth commands (line.Age list) = age_exists n smooth commands list
 reply_exists n smooth commands line.Cert = let v = version_after n commands in (text_of (value_of v), (value_of v, value_is v, refl))
 
-line_reply_exists : (s : State) (l : Line) → IsLawful s → (text : List ℕ) × HasLineReply s l text
+line_reply_exists : (s : State) (l : Line) → IsLawfulState s → (text : List ℕ) × HasLineReply s l text
 line_reply_exists s line.End h = block_reply_exists s h
 line_reply_exists s line.Nothing h = reply_exists s.vertices s.smooth s.commands line.Nothing
 line_reply_exists s (line.Vertices m) h = reply_exists s.vertices s.smooth s.commands (line.Vertices m)
@@ -101,11 +101,11 @@ line_reply_exists s line.Cert h = reply_exists s.vertices s.smooth s.commands li
 line_reply_exists s line.Block h = reply_exists s.vertices s.smooth s.commands line.Block
 line_reply_exists s (line.Ask x y since) h = reply_exists s.vertices s.smooth s.commands (line.Ask x y since)
 
-answer_exists : (s : State) (read : Result Line Refusal) → IsLawful s → (text : List ℕ) × HasAnswer s read text
+answer_exists : (s : State) (read : Result Line Refusal) → IsLawfulState s → (text : List ℕ) × HasAnswer s read text
 answer_exists s (Ok l) h = line_reply_exists s l h
 answer_exists s (Err refusal) h = (error_text (s.lines + 1) refusal.code refusal.place, refl)
 
-pub replies_exist : (s : State) (lines : List (List ℕ)) → IsLawful s → (text : List ℕ) × HaveReplies s lines text
+pub replies_exist : (s : State) (lines : List (List ℕ)) → IsLawfulState s → (text : List ℕ) × HaveReplies s lines text
 replies_exist s [] h = ([], refl)
 replies_exist s (bytes ∷ lines) h =
     let first = answer_exists s (line_of (context_of s) bytes) h in
@@ -127,7 +127,7 @@ pub one_reply : (s : State) (bytes text : List ℕ) → LineHasReply s bytes tex
 one_reply s bytes text h = (text, [], h, refl, sym (append-nil text))
 
 -- a front of the replies to these lines is one of the replies to more lines
-pub front_of_more : (s : State) (xs ys : List (List ℕ)) (front : List ℕ) → IsLawful s → IsFrontOfReplies s xs front → IsFrontOfReplies s (xs ++ ys) front
+pub front_of_more : (s : State) (xs ys : List (List ℕ)) (front : List ℕ) → IsLawfulState s → IsFrontOfReplies s xs front → IsFrontOfReplies s (xs ++ ys) front
 front_of_more s xs ys front lawful h =
     let more = replies_exist (after_lines s xs) ys (lines_lawful s xs lawful) in
     (h.0 ++ more.0, let P : List ℕ → Type 0 = λ v. HaveReplies s (xs ++ ys) v in subst P (append_assoc front h.0 more.0) (replies_append s xs ys (front ++ h.0) more.0 h.1 more.1))
@@ -139,5 +139,5 @@ front_behind s xs ys t front h k =
 pub front_whole : (s : State) (xs : List (List ℕ)) (t : List ℕ) → HaveReplies s xs t → IsFrontOfReplies s xs t
 front_whole s xs t h = ([], let P : List ℕ → Type 0 = λ v. HaveReplies s xs v in subst P (sym (append-nil t)) h)
 
-pub front_none : (s : State) (xs : List (List ℕ)) → IsLawful s → IsFrontOfReplies s xs []
+pub front_none : (s : State) (xs : List (List ℕ)) → IsLawfulState s → IsFrontOfReplies s xs []
 front_none s xs lawful = replies_exist s xs lawful

@@ -4,7 +4,7 @@ use Rattle.std.specs.Prelude.{Bool, Option, Some, None, Result, Ok, Err, OnOk, I
 use Rattle.apsp_model.specs.Command.{Command, Update, graph_of}
 use Rattle.apsp_model.specs.Graph.{Graph}
 use Rattle.apsp_model.specs.Star.{Star}
-use Rattle.history_engine.specs.Seen.{Seen}
+use Rattle.history_engine.specs.Seen.{EngineSeen}
 use Rattle.history_engine.specs.Advance.{Advance, Stands}
 use Rattle.history_engine.proofs.Moments.{law}
 use Rattle.script_reader.specs.Cutter.{Cutting}
@@ -12,7 +12,7 @@ use Rattle.script_reader.specs.Meaning.{line_of}
 use Rattle.script_reader.specs.Refused.{Refusal}
 use Rattle.script_reader.specs.declared.Line.{Line}
 use Rattle.script_reader.specs.declared.Line.TheVariants as line
-use Rattle.version_face.specs.Seen.{Seen as Version}
+use Rattle.version_face.specs.Seen.{VersionSeen as Version}
 use Rattle.apsp_service.specs.declared.stop.Stop.{Stop}
 use Rattle.apsp_service.specs.Certificate.{version_of, version_after, IsTextOf}
 use Rattle.apsp_service.specs.Session.{State, HasReply, HasBlockReply, context_at, context_of, star_with, graph_here, accepted, counted, updated_in, begun_in, fresh_block, asked_in, ended_in, with_updates, after_read, after_line}
@@ -23,19 +23,20 @@ use Rattle.block_run.specs.Run.{AdvancesBy, CanRun, HasRun}
 use Rattle.apsp_service.specs.Blocks.{Block, last_graph, updates_in, asks_in}
 use Rattle.apsp_service.specs.Replies.{answer_text}
 use Rattle.std.specs.List.{flat_map}
-use Rattle.apsp_service.specs.Lawful.{IsBlockOf, IsLawful}
+use Rattle.apsp_service.specs.Lawful.{IsBlockOf, IsLawfulState}
 use Rattle.apsp_service.proofs.Lawful.{accepted_lawful, here_vertices}
-use Rattle.script_reader.specs.Answer.{Fits}
+use Rattle.script_reader.specs.Answer.{FitsContext}
 use Rattle.apsp_service.specs.declared.session.Session.{Session}
 use Rattle.apsp_service.specs.Giving.{HasNetwork, HasInside, IsNetworkOf, CanBeUpdated, CertificateGiven, vertices_in}
 use Rattle.apsp_service.specs.Growing.{GrowsBy, LinesGiven}
 use Rattle.apsp_service.specs.Standing.{HasState}
+use Rattle.apsp_service.proofs.Seen.{sink_at}
 
 -- the state of a session does not hang on the line that is begun
 pub with_line : (session : Session) (cutter : Cutting) (s : State) → HasState session s → HasState (record session { cutter = cutter }) s
 with_line session cutter s h = record { inside = h.inside; readers = h.readers; smooth = h.smooth; lines = h.lines; refused = h.refused }
 
-pub ready_of : (seen : Option Seen) (s : State) → HasNetwork seen s → s.lines < 2 ^ 40 → CanBeUpdated seen
+pub ready_of : (seen : Option EngineSeen) (s : State) → HasNetwork seen s → s.lines < 2 ^ 40 → CanBeUpdated seen
 ready_of None s h few = tt
 ready_of (Some e) s h few = (h.stands.not_spent, omega (arith, h.few, few))
 
@@ -104,57 +105,57 @@ refused_stands s content session refusal reading h readers smooth lines refused 
       refused = refused;
     })
   where
-    network : (seen : Option Seen) → HasNetwork seen s → HasNetwork seen (record (counted s) { refused = true })
+    network : (seen : Option EngineSeen) → HasNetwork seen s → HasNetwork seen (record (counted s) { refused = true })
     network None k = k
     network (Some e) k = record { vertices = k.vertices; smooth = k.smooth; stands = k.stands; few = omega (arith, k.few) }
 
 -- ---- what each line does
 
 -- the fits of a line, for the state
-fits_state : (seen : Option Seen) (open_block : Option Block) (readers : Option ℕ) (s : State) (l : Line) → HasInside seen open_block s → Fits (context_at (vertices_in seen) readers open_block) l → Fits (context_at s.vertices readers s.block) l
+fits_state : (seen : Option EngineSeen) (open_block : Option Block) (readers : Option ℕ) (s : State) (l : Line) → HasInside seen open_block s → FitsContext (context_at (vertices_in seen) readers open_block) l → FitsContext (context_at s.vertices readers s.block) l
 fits_state seen open_block readers s l h f =
-    let F : ℕ → Type 0 = λ n. Fits (context_at n readers open_block) l in
-    let G : Option Block → Type 0 = λ o. Fits (context_at s.vertices readers o) l in
+    let F : ℕ → Type 0 = λ n. FitsContext (context_at n readers open_block) l in
+    let G : Option Block → Type 0 = λ o. FitsContext (context_at s.vertices readers o) l in
     subst G h.block (subst F (vertices_are seen h.network) f)
   where
-    vertices_are : (seen : Option Seen) → HasNetwork seen s → vertices_in seen ≡ s.vertices
+    vertices_are : (seen : Option EngineSeen) → HasNetwork seen s → vertices_in seen ≡ s.vertices
     vertices_are None k = sym k.0
     vertices_are (Some e) k = sym k.vertices
 
-counted_lawful : (s : State) → IsLawful s → IsLawful (counted s)
+counted_lawful : (s : State) → IsLawfulState s → IsLawfulState (counted s)
 counted_lawful s h = record { most = h.most; block = h.block; live = h.live }
 
-lawful_then : (seen : Option Seen) (open_block : Option Block) (readers : Option ℕ) (s : State) (l : Line) → HasInside seen open_block s → Fits (context_at (vertices_in seen) readers open_block) l → IsLawful (accepted (counted s) l)
+lawful_then : (seen : Option EngineSeen) (open_block : Option Block) (readers : Option ℕ) (s : State) (l : Line) → HasInside seen open_block s → FitsContext (context_at (vertices_in seen) readers open_block) l → IsLawfulState (accepted (counted s) l)
 lawful_then seen open_block readers s l h f = accepted_lawful (counted s) l (counted_lawful s h.lawful) readers (fits_state seen open_block readers s l h f)
 
 -- the graph that the network has
-pub graph_is : (e : Seen) (s : State) → IsNetworkOf e s → e.graph ≡ graph_of s.vertices s.commands
+pub graph_is : (e : EngineSeen) (s : State) → IsNetworkOf e s → e.graph ≡ graph_of s.vertices s.commands
 graph_is e s h = h.stands.outline.graph ∙ ap (λ n. graph_of n s.commands) (sym h.vertices)
 
 -- the version that the network has
-pub version_is : (e : Seen) (s : State) → IsNetworkOf e s → version_of e ≡ version_after s.vertices s.commands
+pub version_is : (e : EngineSeen) (s : State) → IsNetworkOf e s → version_of e ≡ version_after s.vertices s.commands
 version_is e s h = λ i. record { number = length (h.stands.outline.vertices i); graph = graph_is e s h i }
 
 -- its certificate is that of the state's version
-pub certificate_stands : (r : Result (Unit {0}) Stop) (seen : Option Seen) (e : Seen) (s : State) (old new : Option (List ℕ)) (before now : ℕ) → seen ≡ Some e → HasNetwork seen s → (text : List ℕ) × IsTextOf (version_of e) text × LinesGiven r old new before now text → CertificateGiven r old new before now s
+pub certificate_stands : (r : Result (Unit {0}) Stop) (seen : Option EngineSeen) (e : EngineSeen) (s : State) (old new : Option (List ℕ)) (before now : ℕ) → seen ≡ Some e → HasNetwork seen s → (text : List ℕ) × IsTextOf (version_of e) text × LinesGiven r (sink_at old before) (sink_at new now) text → CertificateGiven r (sink_at old before) (sink_at new now) s
 certificate_stands r seen e s old new before now is has given =
-    let F : Option Seen → Type 0 = λ o. HasNetwork o s in
-    let G : Version → Type 0 = λ v. (text : List ℕ) × IsTextOf v text × LinesGiven r old new before now text in
+    let F : Option EngineSeen → Type 0 = λ o. HasNetwork o s in
+    let G : Version → Type 0 = λ v. (text : List ℕ) × IsTextOf v text × LinesGiven r (sink_at old before) (sink_at new now) text in
     subst G (version_is e s (subst F is has)) given
 
 -- ---- the updates of a block
 
-stands_by : (stars : List Star) (before after : Seen) (commands : List Command) → AdvancesBy before stars after → Stands before commands → Stands after (with_updates stars commands)
-stands_by [] before after commands a h = let F : Seen → Type 0 = λ e. Stands e commands in subst F (sym a) h
+stands_by : (stars : List Star) (before after : EngineSeen) (commands : List Command) → AdvancesBy before stars after → Stands before commands → Stands after (with_updates stars commands)
+stands_by [] before after commands a h = let F : EngineSeen → Type 0 = λ e. Stands e commands in subst F (sym a) h
 stands_by (star ∷ stars) before after commands a h = stands_by stars a.0 after (Update star ∷ commands) a.2 (law before a.0 (Update star) commands a.1 h)
 
-record Moves (before : Seen) (count : ℕ) (after : Seen) : Type 0 where
+record Moves (before : EngineSeen) (count : ℕ) (after : EngineSeen) : Type 0 where
   opening : after.opening ≡ before.opening
   smooth : after.smooth ≡ before.smooth
   vertices : length after.vertices ≡ length before.vertices + count
 
-moves_by : (stars : List Star) (before after : Seen) → AdvancesBy before stars after → Moves before (length stars) after
-moves_by [] before after a = record { opening = ap (λ (e : Seen). e.opening) a; smooth = ap (λ (e : Seen). e.smooth) a; vertices = omega (arith, ap (λ (e : Seen). length e.vertices) a) }
+moves_by : (stars : List Star) (before after : EngineSeen) → AdvancesBy before stars after → Moves before (length stars) after
+moves_by [] before after a = record { opening = ap (λ (e : EngineSeen). e.opening) a; smooth = ap (λ (e : EngineSeen). e.smooth) a; vertices = omega (arith, ap (λ (e : EngineSeen). length e.vertices) a) }
 moves_by (star ∷ stars) before after a =
     let m = moves_by stars a.0 after a.2 in
     record {
@@ -164,7 +165,7 @@ moves_by (star ∷ stars) before after a =
     }
 
 -- a block was run
-pub block_ran : (before after : Seen) (s : State) (b : Block) → HasInside (Some before) (Some b) s → AdvancesBy before b.plan.stars after → HasInside (Some after) None (accepted (counted s) line.End)
+pub block_ran : (before after : EngineSeen) (s : State) (b : Block) → HasInside (Some before) (Some b) s → AdvancesBy before b.plan.stars after → HasInside (Some after) None (accepted (counted s) line.End)
 block_ran before after s b h a =
     let F : Option Block → Type 0 = λ o. HasInside (Some after) None (ended_in (counted s) o) in
     let m = moves_by b.plan.stars before after a in
@@ -183,18 +184,18 @@ block_ran before after s b h a =
 
 -- ---- lines outside and inside a block
 
-counted_network : (seen : Option Seen) (s : State) → HasNetwork seen s → HasNetwork seen (counted s)
+counted_network : (seen : Option EngineSeen) (s : State) → HasNetwork seen s → HasNetwork seen (counted s)
 counted_network None s k = k
 counted_network (Some e) s k = record { vertices = k.vertices; smooth = k.smooth; stands = k.stands; few = omega (arith, k.few) }
 
 -- a line that changes nothing
-pub counted_inside : (seen : Option Seen) (open_block : Option Block) (s : State) → HasInside seen open_block s → HasInside seen open_block (counted s)
+pub counted_inside : (seen : Option EngineSeen) (open_block : Option Block) (s : State) → HasInside seen open_block s → HasInside seen open_block (counted s)
 counted_inside seen open_block s h = record { network = counted_network seen s h.network; block = h.block; asks = omega (arith, h.asks); lawful = counted_lawful s h.lawful }
 
-pub updated_outside : {E : Type 0} (r : Result (Unit {0}) E) (before after : Seen) (s : State) (star : Star) → HasInside (Some before) None s → IsLawful (updated_in (counted s) s.block star) → OnOk r (Advance before (Update star) after) → OnOk r (HasInside (Some after) None (updated_in (counted s) s.block star))
+pub updated_outside : {E : Type 0} (r : Result (Unit {0}) E) (before after : EngineSeen) (s : State) (star : Star) → HasInside (Some before) None s → IsLawfulState (updated_in (counted s) s.block star) → OnOk r (Advance before (Update star) after) → OnOk r (HasInside (Some after) None (updated_in (counted s) s.block star))
 updated_outside (Err e) before after s star h lawful a = tt
 updated_outside (Ok u) before after s star h lawful a =
-    let F : Option Block → Type 0 = λ o. IsLawful (updated_in (counted s) o star) → HasInside (Some after) None (updated_in (counted s) o star) in
+    let F : Option Block → Type 0 = λ o. IsLawfulState (updated_in (counted s) o star) → HasInside (Some after) None (updated_in (counted s) o star) in
     subst F h.block (λ l. record {
       network = record {
         vertices = h.network.vertices ∙ sym a.opening;
@@ -207,17 +208,17 @@ updated_outside (Ok u) before after s star h lawful a =
       lawful = l;
     }) lawful
 
-pub edge_outside : {E : Type 0} (r : Result (Unit {0}) E) (before after : Seen) (s : State) (u v : ℕ) (w : Option ℕ) → HasInside (Some before) None s → IsLawful (updated_in (counted s) s.block (star_with (graph_here (counted s) s.block) u v w)) → OnOk r (Advance before (Update (star_with before.graph u v w)) after) → OnOk r (HasInside (Some after) None (updated_in (counted s) s.block (star_with (graph_here (counted s) s.block) u v w)))
+pub edge_outside : {E : Type 0} (r : Result (Unit {0}) E) (before after : EngineSeen) (s : State) (u v : ℕ) (w : Option ℕ) → HasInside (Some before) None s → IsLawfulState (updated_in (counted s) s.block (star_with (graph_here (counted s) s.block) u v w)) → OnOk r (Advance before (Update (star_with before.graph u v w)) after) → OnOk r (HasInside (Some after) None (updated_in (counted s) s.block (star_with (graph_here (counted s) s.block) u v w)))
 edge_outside r before after s u v w h lawful a =
     let G : Option Block → Type 0 = λ o. before.graph ≡ graph_here (counted s) o in
     let here : before.graph ≡ graph_here (counted s) s.block = subst G h.block (graph_is before s h.network) in
     let F : Graph → Type 0 = λ g. OnOk r (Advance before (Update (star_with g u v w)) after) in
     updated_outside r before after s (star_with (graph_here (counted s) s.block) u v w) h lawful (subst F here a)
 
-pub updated_inside : {E : Type 0} (r : Result (Unit {0}) E) (e : Seen) (old new : Block) (s : State) (star : Star) → HasInside (Some e) (Some old) s → IsLawful (updated_in (counted s) s.block star) → OnOk r (new ≡ record old { plan = with_star old.plan star }) → OnOk r (HasInside (Some e) (Some new) (updated_in (counted s) s.block star))
+pub updated_inside : {E : Type 0} (r : Result (Unit {0}) E) (e : EngineSeen) (old new : Block) (s : State) (star : Star) → HasInside (Some e) (Some old) s → IsLawfulState (updated_in (counted s) s.block star) → OnOk r (new ≡ record old { plan = with_star old.plan star }) → OnOk r (HasInside (Some e) (Some new) (updated_in (counted s) s.block star))
 updated_inside (Err x) e old new s star h lawful is = tt
 updated_inside (Ok u) e old new s star h lawful is =
-    let F : Option Block → Type 0 = λ o. (length e.vertices + updates_in o ≤ s.lines) → (asks_in o ≤ s.lines) → IsLawful (updated_in (counted s) o star) → HasInside (Some e) (Some new) (updated_in (counted s) o star) in
+    let F : Option Block → Type 0 = λ o. (length e.vertices + updates_in o ≤ s.lines) → (asks_in o ≤ s.lines) → IsLawfulState (updated_in (counted s) o star) → HasInside (Some e) (Some new) (updated_in (counted s) o star) in
     subst F h.block (λ few asks l. record {
       network = record { vertices = h.network.vertices; smooth = h.network.smooth; stands = h.network.stands; few = omega (arith, few, length-append old.plan.stars (star ∷ [])) };
       block = ap Some is;
@@ -225,17 +226,17 @@ updated_inside (Ok u) e old new s star h lawful is =
       lawful = l;
     }) h.network.few h.asks lawful
 
-pub edge_inside : {E : Type 0} (r : Result (Unit {0}) E) (e : Seen) (old new : Block) (s : State) (u v : ℕ) (w : Option ℕ) → HasInside (Some e) (Some old) s → IsLawful (updated_in (counted s) s.block (star_with (graph_here (counted s) s.block) u v w)) → OnOk r (new ≡ record old { plan = with_star old.plan (star_with (last_graph old.plan) u v w) }) → OnOk r (HasInside (Some e) (Some new) (updated_in (counted s) s.block (star_with (graph_here (counted s) s.block) u v w)))
+pub edge_inside : {E : Type 0} (r : Result (Unit {0}) E) (e : EngineSeen) (old new : Block) (s : State) (u v : ℕ) (w : Option ℕ) → HasInside (Some e) (Some old) s → IsLawfulState (updated_in (counted s) s.block (star_with (graph_here (counted s) s.block) u v w)) → OnOk r (new ≡ record old { plan = with_star old.plan (star_with (last_graph old.plan) u v w) }) → OnOk r (HasInside (Some e) (Some new) (updated_in (counted s) s.block (star_with (graph_here (counted s) s.block) u v w)))
 edge_inside r e old new s u v w h lawful is =
     let G : Option Block → Type 0 = λ o. last_graph old.plan ≡ graph_here (counted s) o in
     let here : last_graph old.plan ≡ graph_here (counted s) s.block = subst G h.block refl in
     let F : Graph → Type 0 = λ g. OnOk r (new ≡ record old { plan = with_star old.plan (star_with g u v w) }) in
     updated_inside r e old new s (star_with (graph_here (counted s) s.block) u v w) h lawful (subst F here is)
 
-pub asked_inside : {E : Type 0} (r : Result (Unit {0}) E) (e : Seen) (old new : Block) (s : State) (ask : Ask) → HasInside (Some e) (Some old) s → IsLawful (asked_in (counted s) s.block ask) → OnOk r (new ≡ record old { asks = old.asks ++ ask ∷ [] }) → OnOk r (HasInside (Some e) (Some new) (asked_in (counted s) s.block ask))
+pub asked_inside : {E : Type 0} (r : Result (Unit {0}) E) (e : EngineSeen) (old new : Block) (s : State) (ask : Ask) → HasInside (Some e) (Some old) s → IsLawfulState (asked_in (counted s) s.block ask) → OnOk r (new ≡ record old { asks = old.asks ++ ask ∷ [] }) → OnOk r (HasInside (Some e) (Some new) (asked_in (counted s) s.block ask))
 asked_inside (Err x) e old new s ask h lawful is = tt
 asked_inside (Ok u) e old new s ask h lawful is =
-    let F : Option Block → Type 0 = λ o. (length e.vertices + updates_in o ≤ s.lines) → (asks_in o ≤ s.lines) → IsLawful (asked_in (counted s) o ask) → HasInside (Some e) (Some new) (asked_in (counted s) o ask) in
+    let F : Option Block → Type 0 = λ o. (length e.vertices + updates_in o ≤ s.lines) → (asks_in o ≤ s.lines) → IsLawfulState (asked_in (counted s) o ask) → HasInside (Some e) (Some new) (asked_in (counted s) o ask) in
     subst F h.block (λ few asks l. record {
       network = record { vertices = h.network.vertices; smooth = h.network.smooth; stands = h.network.stands; few = omega (arith, few) };
       block = ap Some is;
@@ -243,17 +244,17 @@ asked_inside (Ok u) e old new s ask h lawful is =
       lawful = l;
     }) h.network.few h.asks lawful
 
-pub asked_outside : (e : Seen) (s : State) (ask : Ask) → HasInside (Some e) None s → HasInside (Some e) None (asked_in (counted s) s.block ask)
+pub asked_outside : (e : EngineSeen) (s : State) (ask : Ask) → HasInside (Some e) None s → HasInside (Some e) None (asked_in (counted s) s.block ask)
 asked_outside e s ask h = let F : Option Block → Type 0 = λ o. HasInside (Some e) None (asked_in (counted s) o ask) in subst F h.block (counted_inside (Some e) None s h)
 
 -- without a block there is nothing to run
-pub none_ran : (seen : Option Seen) (s : State) → HasInside seen None s → HasInside seen None (accepted (counted s) line.End)
+pub none_ran : (seen : Option EngineSeen) (s : State) → HasInside seen None s → HasInside seen None (accepted (counted s) line.End)
 none_ran seen s h = let F : Option Block → Type 0 = λ o. HasInside seen None (ended_in (counted s) o) in subst F h.block (counted_inside seen None s h)
 
 -- a block was begun
-pub begun : (e : Seen) (b : Block) (open_block : Option Block) (s : State) (n : ℕ) → HasInside (Some e) open_block s → s.readers ≡ Some n → b ≡ record { plan = record { start = e.graph; lo = length e.vertices; stars = [] }; asks = [] } → IsLawful (accepted (counted s) line.Block) → HasInside (Some e) (Some b) (accepted (counted s) line.Block)
+pub begun : (e : EngineSeen) (b : Block) (open_block : Option Block) (s : State) (n : ℕ) → HasInside (Some e) open_block s → s.readers ≡ Some n → b ≡ record { plan = record { start = e.graph; lo = length e.vertices; stars = [] }; asks = [] } → IsLawfulState (accepted (counted s) line.Block) → HasInside (Some e) (Some b) (accepted (counted s) line.Block)
 begun e b open_block s n h readers is lawful =
-    let F : Option ℕ → Type 0 = λ r. IsLawful (begun_in (counted s) r) → HasInside (Some e) (Some b) (begun_in (counted s) r) in
+    let F : Option ℕ → Type 0 = λ r. IsLawfulState (begun_in (counted s) r) → HasInside (Some e) (Some b) (begun_in (counted s) r) in
     let fresh : b ≡ fresh_block (counted s) = is ∙ (λ i. record { plan = record { start = graph_is e s h.network i; lo = length (h.network.stands.outline.vertices i); stars = [] }; asks = [] }) in
     subst F (sym readers) (λ l. record {
       network = record { vertices = h.network.vertices; smooth = h.network.smooth; stands = h.network.stands; few = omega (arith, h.network.few) };
@@ -262,32 +263,32 @@ begun e b open_block s n h readers is lawful =
       lawful = l;
     }) lawful
 
-pub begun_when : (seen : Option Seen) (open_block : Option Block) (e : Seen) (b : Block) (s : State) (l : Line) (readers : Option ℕ) (start : Graph) (lo : ℕ) → l ≡ line.Block → seen ≡ Some e → is_some readers ≡ true → readers ≡ s.readers → b ≡ record { plan = record { start = start; lo = lo; stars = [] }; asks = [] } → start ≡ e.graph → lo ≡ length e.vertices → Fits (context_at (vertices_in seen) readers open_block) l → HasInside seen open_block s → HasInside (Some e) (Some b) (accepted (counted s) l)
+pub begun_when : (seen : Option EngineSeen) (open_block : Option Block) (e : EngineSeen) (b : Block) (s : State) (l : Line) (readers : Option ℕ) (start : Graph) (lo : ℕ) → l ≡ line.Block → seen ≡ Some e → is_some readers ≡ true → readers ≡ s.readers → b ≡ record { plan = record { start = start; lo = lo; stars = [] }; asks = [] } → start ≡ e.graph → lo ≡ length e.vertices → FitsContext (context_at (vertices_in seen) readers open_block) l → HasInside seen open_block s → HasInside (Some e) (Some b) (accepted (counted s) l)
 begun_when seen open_block e b s l readers start lo is se live told fresh graph number fits h =
-    let F : Option Seen → Type 0 = λ z. HasInside z open_block s in
-    let G : Option Seen → Type 0 = λ z. Fits (context_at (vertices_in z) readers open_block) l in
-    let H : Line → Type 0 = λ k. Fits (context_at (vertices_in (Some e)) readers open_block) k in
+    let F : Option EngineSeen → Type 0 = λ z. HasInside z open_block s in
+    let G : Option EngineSeen → Type 0 = λ z. FitsContext (context_at (vertices_in z) readers open_block) l in
+    let H : Line → Type 0 = λ k. FitsContext (context_at (vertices_in (Some e)) readers open_block) k in
     let K : Line → Type 0 = λ k. HasInside (Some e) (Some b) (accepted (counted s) k) in
     subst K (sym is) (at readers told live (subst F se h) (subst H is (subst G se fits)))
   where
     same : b ≡ record { plan = record { start = e.graph; lo = length e.vertices; stars = [] }; asks = [] }
     same = fresh ∙ (λ i. record { plan = record { start = graph i; lo = number i; stars = [] }; asks = [] })
 
-    at : (rd : Option ℕ) → rd ≡ s.readers → is_some rd ≡ true → HasInside (Some e) open_block s → Fits (context_at (vertices_in (Some e)) readers open_block) line.Block → HasInside (Some e) (Some b) (accepted (counted s) line.Block)
+    at : (rd : Option ℕ) → rd ≡ s.readers → is_some rd ≡ true → HasInside (Some e) open_block s → FitsContext (context_at (vertices_in (Some e)) readers open_block) line.Block → HasInside (Some e) (Some b) (accepted (counted s) line.Block)
     at None k l h f = absurd (let no : false ≡ true = l in cc)
     at (Some n) k l h f = begun e b open_block s n h (sym k) same (lawful_then (Some e) open_block readers s line.Block h f)
 
-pub not_begun : (seen : Option Seen) (open_block : Option Block) (s : State) → HasInside seen open_block s → s.readers ≡ None → HasInside seen open_block (accepted (counted s) line.Block)
+pub not_begun : (seen : Option EngineSeen) (open_block : Option Block) (s : State) → HasInside seen open_block s → s.readers ≡ None → HasInside seen open_block (accepted (counted s) line.Block)
 not_begun seen open_block s h none =
     let F : Option ℕ → Type 0 = λ r. HasInside seen open_block (begun_in (counted s) r) in
     subst F (sym none) (counted_inside seen open_block s h)
 
 -- what a run of a block leaves, and what it replies
-pub ran_stands : {E : Type 0} (r : Result (List Answer) E) (n : ℕ) (before after : Seen) (s : State) (b : Block) → HasInside (Some before) (Some b) s → HasRun n before b.plan b.asks r after → IfOk r (λ _. HasInside (Some after) None (accepted (counted s) line.End))
+pub ran_stands : {E : Type 0} (r : Result (List Answer) E) (n : ℕ) (before after : EngineSeen) (s : State) (b : Block) → HasInside (Some before) (Some b) s → HasRun n before b.plan b.asks r after → IfOk r (λ _. HasInside (Some after) None (accepted (counted s) line.End))
 ran_stands (Err e) n before after s b h run = tt
 ran_stands (Ok a) n before after s b h run = block_ran before after s b h run.taken
 
-pub ran_replies : {E : Type 0} (r : Result (List Answer) E) (n : ℕ) (readers : Option ℕ) (before after : Seen) (s : State) (b : Block) → HasInside (Some before) (Some b) s → readers ≡ Some n → HasRun n before b.plan b.asks r after → IfOk r (λ answers. HasBlockReply readers s.block (flat_map answer_text answers))
+pub ran_replies : {E : Type 0} (r : Result (List Answer) E) (n : ℕ) (readers : Option ℕ) (before after : EngineSeen) (s : State) (b : Block) → HasInside (Some before) (Some b) s → readers ≡ Some n → HasRun n before b.plan b.asks r after → IfOk r (λ answers. HasBlockReply readers s.block (flat_map answer_text answers))
 ran_replies (Err e) n readers before after s b h some run = tt
 ran_replies (Ok a) n readers before after s b h some run =
     let F : Option ℕ → Type 0 = λ r. HasBlockReply r s.block (flat_map answer_text a) in
@@ -295,7 +296,7 @@ ran_replies (Ok a) n readers before after s b h some run =
     subst F (sym some) (subst G h.block (a, run.answers, refl))
 
 -- the block may be run
-pub can_run : (e : Seen) (s : State) (b : Block) → HasInside (Some e) (Some b) s → CanRun e b.plan b.asks
+pub can_run : (e : EngineSeen) (s : State) (b : Block) → HasInside (Some e) (Some b) s → CanRun e b.plan b.asks
 can_run e s b h =
     let F : Option Block → Type 0 = λ o. IfSome o (IsBlockOf s.vertices s.commands) in
     let k : IsBlockOf s.vertices s.commands b = subst F (sym h.block) h.lawful.block in
@@ -305,7 +306,7 @@ can_run e s b h =
       asks_of = k.asks;
     }
 
-pub some_readers : (seen : Option Seen) (b : Block) (s : State) → HasInside seen (Some b) s → IsSome s.readers
+pub some_readers : (seen : Option EngineSeen) (b : Block) (s : State) → HasInside seen (Some b) s → IsSome s.readers
 some_readers seen b s h = at s.readers refl
   where
     at : (r : Option ℕ) → s.readers ≡ r → IsSome r
@@ -313,20 +314,20 @@ some_readers seen b s h = at s.readers refl
     at (Some n) e = refl
 
 -- a run for a number of readers is one for an equal number
-pub run_for : {E : Type 0} (n x : ℕ) (before after : Seen) (p : Plan) (asks : List Ask) (r : Result (List Answer) E) → Some n ≡ Some x → HasRun n before p asks r after → HasRun x before p asks r after
+pub run_for : {E : Type 0} (n x : ℕ) (before after : EngineSeen) (p : Plan) (asks : List Ask) (r : Result (List Answer) E) → Some n ≡ Some x → HasRun n before p asks r after → HasRun x before p asks r after
 run_for n x before after p asks r is run =
     let same : n ≡ x = cc in
     let F : ℕ → Type 0 = λ k. HasRun k before p asks r after in
     subst F same run
 
-pub inside_as : (seen : Option Seen) (open_block : Option Block) (e : Seen) (b : Block) (s : State) → seen ≡ Some e → open_block ≡ Some b → HasInside seen open_block s → HasInside (Some e) (Some b) s
+pub inside_as : (seen : Option EngineSeen) (open_block : Option Block) (e : EngineSeen) (b : Block) (s : State) → seen ≡ Some e → open_block ≡ Some b → HasInside seen open_block s → HasInside (Some e) (Some b) s
 inside_as seen open_block e b s se ob h =
-    let F : Option Seen → Type 0 = λ z. HasInside z open_block s in
+    let F : Option EngineSeen → Type 0 = λ z. HasInside z open_block s in
     let G : Option Block → Type 0 = λ o. HasInside (Some e) o s in
     subst G ob (subst F se h)
 
 -- the end of a block, where the session before it is that of some state
-module _ {E : Type 0} (r : Result (List Answer) E) (seen : Option Seen) (open_block : Option Block) (readers : Option ℕ) (before after : Seen) (b : Block) (s0 s : State) (was : HasInside seen open_block s0) (told : s0.readers ≡ readers) (se : seen ≡ Some before) (ob : open_block ≡ Some b) (run : (x : ℕ) → readers ≡ Some x → HasRun x before b.plan b.asks r after) (h : HasInside seen open_block s) where
+module _ {E : Type 0} (r : Result (List Answer) E) (seen : Option EngineSeen) (open_block : Option Block) (readers : Option ℕ) (before after : EngineSeen) (b : Block) (s0 s : State) (was : HasInside seen open_block s0) (told : s0.readers ≡ readers) (se : seen ≡ Some before) (ob : open_block ≡ Some b) (run : (x : ℕ) → readers ≡ Some x → HasRun x before b.plan b.asks r after) (h : HasInside seen open_block s) where
   pub end_stands : (left : Option Block) → left ≡ None → IfOk r (λ _. HasInside (Some after) left (accepted (counted s) line.End))
   end_stands left none = at readers refl
     where
@@ -344,29 +345,29 @@ module _ {E : Type 0} (r : Result (List Answer) E) (seen : Option Seen) (open_bl
       at (Some n) e = ran_replies r n readers before after s b (inside_as seen open_block before b s se ob h) e (run n e)
 
 -- what the open block needs to know of a line
-pub block_vertices : (seen : Option Seen) (open_block : Option Block) (e : Seen) (b : Block) (s : State) → seen ≡ Some e → open_block ≡ Some b → HasInside seen open_block s → (last_graph b.plan).vertices ≡ e.opening
+pub block_vertices : (seen : Option EngineSeen) (open_block : Option Block) (e : EngineSeen) (b : Block) (s : State) → seen ≡ Some e → open_block ≡ Some b → HasInside seen open_block s → (last_graph b.plan).vertices ≡ e.opening
 block_vertices seen open_block e b s se ob was =
     let h = inside_as seen open_block e b s se ob was in
     let F : Option Block → Type 0 = λ o. (graph_here s o).vertices ≡ s.vertices in
     subst F (sym h.block) (here_vertices s h.lawful) ∙ h.network.vertices
 
-pub fits_in : (seen : Option Seen) (open_block : Option Block) (readers : Option ℕ) (e : Seen) (b : Block) (l : Line) → seen ≡ Some e → open_block ≡ Some b → (last_graph b.plan).vertices ≡ e.opening → Fits (context_at (vertices_in seen) readers open_block) l → Fits (context_at (last_graph b.plan).vertices readers (Some b)) l
+pub fits_in : (seen : Option EngineSeen) (open_block : Option Block) (readers : Option ℕ) (e : EngineSeen) (b : Block) (l : Line) → seen ≡ Some e → open_block ≡ Some b → (last_graph b.plan).vertices ≡ e.opening → FitsContext (context_at (vertices_in seen) readers open_block) l → FitsContext (context_at (last_graph b.plan).vertices readers (Some b)) l
 fits_in seen open_block readers e b l se ob same f =
-    let F : Option Seen → Type 0 = λ z. Fits (context_at (vertices_in z) readers open_block) l in
-    let G : Option Block → Type 0 = λ o. Fits (context_at e.opening readers o) l in
-    let H : ℕ → Type 0 = λ n. Fits (context_at n readers (Some b)) l in
+    let F : Option EngineSeen → Type 0 = λ z. FitsContext (context_at (vertices_in z) readers open_block) l in
+    let G : Option Block → Type 0 = λ o. FitsContext (context_at e.opening readers o) l in
+    let H : ℕ → Type 0 = λ n. FitsContext (context_at n readers (Some b)) l in
     subst H (sym same) (subst G ob (subst F se f))
 
-pub lawful_at : (seen : Seen) (open_block : Option Block) (readers : Option ℕ) (s : State) (l : Line) → HasInside (Some seen) open_block s → Fits (context_at seen.opening readers open_block) l → IsLawful (accepted (counted s) l)
+pub lawful_at : (seen : EngineSeen) (open_block : Option Block) (readers : Option ℕ) (s : State) (l : Line) → HasInside (Some seen) open_block s → FitsContext (context_at seen.opening readers open_block) l → IsLawfulState (accepted (counted s) l)
 lawful_at seen open_block readers s l h f = lawful_then (Some seen) open_block readers s l h f
 
-pub lawful_inside : (e : Seen) (b : Block) (readers : Option ℕ) (s : State) (l : Line) → HasInside (Some e) (Some b) s → Fits (context_at (last_graph b.plan).vertices readers (Some b)) l → IsLawful (accepted (counted s) l)
+pub lawful_inside : (e : EngineSeen) (b : Block) (readers : Option ℕ) (s : State) (l : Line) → HasInside (Some e) (Some b) s → FitsContext (context_at (last_graph b.plan).vertices readers (Some b)) l → IsLawfulState (accepted (counted s) l)
 lawful_inside e b readers s l h f =
-    let F : ℕ → Type 0 = λ n. Fits (context_at n readers (Some b)) l in
+    let F : ℕ → Type 0 = λ n. FitsContext (context_at n readers (Some b)) l in
     lawful_then (Some e) (Some b) readers s l h (subst F (block_vertices (Some e) (Some b) e b s refl refl h) f)
 
 -- the plan of the open block has room for one update more
-pub room_in : (seen : Option Seen) (open_block : Option Block) (e : Seen) (b : Block) (s : State) → seen ≡ Some e → open_block ≡ Some b → HasInside seen open_block s → s.lines < 2 ^ 40 → hi_of b.plan < 2 ^ 40
+pub room_in : (seen : Option EngineSeen) (open_block : Option Block) (e : EngineSeen) (b : Block) (s : State) → seen ≡ Some e → open_block ≡ Some b → HasInside seen open_block s → s.lines < 2 ^ 40 → hi_of b.plan < 2 ^ 40
 room_in seen open_block e b s se ob was few_lines =
     let h = inside_as seen open_block e b s se ob was in
     let F : Option Block → Type 0 = λ o. IfSome o (IsBlockOf s.vertices s.commands) in
@@ -376,7 +377,7 @@ room_in seen open_block e b s se ob was few_lines =
     omega (arith, few, few_lines, ap length h.network.stands.outline.vertices, k.lo)
 
 -- a line that fits in a block has no reply
-pub silent_inside : (n m : ℕ) (smooth : Bool) (commands : List Command) (readers : Option ℕ) (b : Block) (l : Line) → Fits (context_at n readers (Some b)) l → HasReply m smooth commands l []
+pub silent_inside : (n m : ℕ) (smooth : Bool) (commands : List Command) (readers : Option ℕ) (b : Block) (l : Line) → FitsContext (context_at n readers (Some b)) l → HasReply m smooth commands l []
 silent_inside n m smooth commands readers b line.Nothing f = refl
 silent_inside n m smooth commands readers b (line.Vertices k) f = refl
 silent_inside n m smooth commands readers b (line.Star star) f = refl
@@ -393,7 +394,7 @@ silent_inside n m smooth commands readers b (line.Ask x y since) f = refl
 silent_inside n m smooth commands readers b line.End f = refl
 
 -- what is said of the network's number of vertices and smoothing holds of those of the state
-pub of_network : {E : Type 0} (r : Result (Unit {0}) E) (P : ℕ → Bool → List ℕ → Type 0) (e : Seen) (s : State) (old new : List ℕ) → IsNetworkOf e s → OnOk r (GrowsBy (P e.opening e.smooth) old new) → OnOk r (GrowsBy (P s.vertices s.smooth) old new)
+pub of_network : {E : Type 0} (r : Result (Unit {0}) E) (P : ℕ → Bool → List ℕ → Type 0) (e : EngineSeen) (s : State) (old new : List ℕ) → IsNetworkOf e s → OnOk r (GrowsBy (P e.opening e.smooth) old new) → OnOk r (GrowsBy (P s.vertices s.smooth) old new)
 of_network r P e s old new h grows =
     let F : ℕ → Type 0 = λ n. OnOk r (GrowsBy (P n e.smooth) old new) in
     let G : Bool → Type 0 = λ b. OnOk r (GrowsBy (P s.vertices b) old new) in

@@ -6,16 +6,17 @@ use Rattle.apsp_model.specs.declared.TheConstants.{MOST_UPDATES}
 use Rattle.apsp_io.specs.Streams.{Rose, GrowsByPrefix}
 use Rattle.apsp_io.specs.declared.sink.GiveError.{GiveError}
 use Rattle.apsp_io.specs.declared.sink.GiveError.TheVariants as give
-use Rattle.history_engine.specs.Seen.{Seen}
+use Rattle.history_engine.specs.Seen.{EngineSeen}
 use Rattle.history_engine.specs.Advance.{Stands}
 use Rattle.script_reader.specs.Meaning.{line_of}
 use Rattle.script_reader.specs.declared.Line.TheVariants as line
+use Rattle.apsp_service.specs.Streams.{SinkSeen}
 use Rattle.apsp_service.specs.Certificate.{IsCertReply}
 use Rattle.apsp_service.specs.Growing.{LinesGiven}
 use Rattle.apsp_service.specs.Replies.{answer_text}
 use Rattle.apsp_service.specs.Session.{State, context_of, LineHasReply, HaveReplies, HaveAllReplies}
 use Rattle.apsp_service.specs.Blocks.{Block, updates_in, asks_in}
-use Rattle.apsp_service.specs.Lawful.{IsLawful}
+use Rattle.apsp_service.specs.Lawful.{IsLawfulState}
 use Rattle.apsp_service.specs.declared.session.Reply.{Reply}
 use Rattle.apsp_service.specs.declared.session.Reply.TheVariants as reply
 use Rattle.apsp_service.specs.declared.stop.Stop.{Stop}
@@ -42,25 +43,24 @@ GaveFrontOfAll old new s lines =
     (front : List ℕ) × ((rest : List ℕ) × HaveAllReplies s lines (front ++ rest)) × Appends old new front
 
 -- what a stop while these lines are answered leaves
-abbrev pub StopsAmong : Stop → Option (List ℕ) → Option (List ℕ) → ℕ → ℕ → State → List (List ℕ) → Type 0
-StopsAmong stop.Source old new before now s lines = ⊥
-StopsAmong stop.Sink old new before now s lines = GaveFront old new s lines × Rose before now
-StopsAmong stop.Memory old new before now s lines = GaveFront old new s lines
-StopsAmong stop.Limit old new before now s lines = ⊥
+abbrev pub StopsAmong : Stop → SinkSeen → SinkSeen → State → List (List ℕ) → Type 0
+StopsAmong stop.Source old new s lines = ⊥
+StopsAmong stop.Sink old new s lines = GaveFront old.held new.held s lines × Rose old.faults new.faults
+StopsAmong stop.Memory old new s lines = GaveFront old.held new.held s lines
+StopsAmong stop.Limit old new s lines = ⊥
 
 -- how giving the replies to these lines ends
-abbrev pub GivingEnds : {A : Type 0} → Result A Stop → Option (List ℕ) → Option (List ℕ) → ℕ → ℕ → State → List (List ℕ)
-    → Type 0
-GivingEnds (Ok a) old new before now s lines = Gave old new s lines
-GivingEnds (Err e) old new before now s lines = StopsAmong e old new before now s lines
+abbrev pub GivingEnds : {A : Type 0} → Result A Stop → SinkSeen → SinkSeen → State → List (List ℕ) → Type 0
+GivingEnds (Ok a) old new s lines = Gave old.held new.held s lines
+GivingEnds (Err e) old new s lines = StopsAmong e old new s lines
 
 -- a text was given
-abbrev pub TextGiven : {A : Type 0} → Result A Stop → Option (List ℕ) → Option (List ℕ) → ℕ → ℕ → List ℕ → Type 0
-TextGiven (Ok a) old new before now text = Appends old new text
-TextGiven (Err stop.Source) old new before now text = ⊥
-TextGiven (Err stop.Sink) old new before now text = GrowsByPrefix old new text × Rose before now
-TextGiven (Err stop.Memory) old new before now text = Appends old new []
-TextGiven (Err stop.Limit) old new before now text = ⊥
+abbrev pub TextGiven : {A : Type 0} → Result A Stop → SinkSeen → SinkSeen → List ℕ → Type 0
+TextGiven (Ok a) old new text = Appends old.held new.held text
+TextGiven (Err stop.Source) old new text = ⊥
+TextGiven (Err stop.Sink) old new text = GrowsByPrefix old.held new.held text × Rose old.faults new.faults
+TextGiven (Err stop.Memory) old new text = Appends old.held new.held []
+TextGiven (Err stop.Limit) old new text = ⊥
 
 -- a sink's answer, as that of a session
 abbrev pub as_stop : Result (Unit {0}) GiveError → Result (Unit {0}) Stop
@@ -69,9 +69,9 @@ as_stop (Err give.Failed) = Err stop.Sink
 as_stop (Err give.Memory) = Err stop.Memory
 
 -- the certificate of the state's version was given, or a front of it
-abbrev pub CertificateGiven : {A : Type 0} → Result A Stop → Option (List ℕ) → Option (List ℕ) → ℕ → ℕ → State → Type 0
-CertificateGiven result old new before now s =
-    (text : List ℕ) × IsCertReply s.vertices s.commands text × LinesGiven result old new before now text
+abbrev pub CertificateGiven : {A : Type 0} → Result A Stop → SinkSeen → SinkSeen → State → Type 0
+CertificateGiven result old new s =
+    (text : List ℕ) × IsCertReply s.vertices s.commands text × LinesGiven result old new text
 
 -- the reply to a line is this text, or it is a certificate, or these answers are
 abbrev pub IsRepliedBy : Reply → State → List ℕ → List ℕ → Type 0
@@ -81,28 +81,28 @@ IsRepliedBy (reply.Answers answers) s content text = LineHasReply s content (fla
 
 -- the engine behind the session stands for the commands, of which there are no more than lines, with the
 -- updates of the open block; before the line `vertices` there is none
-pub record IsNetworkOf (e : Seen) (s : State) : Type 0 where
+pub record IsNetworkOf (e : EngineSeen) (s : State) : Type 0 where
   pub vertices : s.vertices ≡ e.opening
   pub smooth : e.smooth ≡ s.smooth
   pub stands : Stands e s.commands
   pub few : length e.vertices + updates_in s.block ≤ s.lines
 
-abbrev pub HasNetwork : Option Seen → State → Type 0
+abbrev pub HasNetwork : Option EngineSeen → State → Type 0
 HasNetwork None s = (s.vertices ≡ 0) × (s.commands ≡ []) × (s.block ≡ None)
 HasNetwork (Some e) s = IsNetworkOf e s
 
 -- the engine and the block of the session are those of the state
-pub record HasInside (seen : Option Seen) (open_block : Option Block) (s : State) : Type 0 where
+pub record HasInside (seen : Option EngineSeen) (open_block : Option Block) (s : State) : Type 0 where
   pub network : HasNetwork seen s
   pub block : open_block ≡ s.block
   pub asks : asks_in s.block ≤ s.lines
-  pub lawful : IsLawful s
+  pub lawful : IsLawfulState s
 
-abbrev pub vertices_in : Option Seen → ℕ
+abbrev pub vertices_in : Option EngineSeen → ℕ
 vertices_in None = 0
 vertices_in (Some e) = e.opening
 
 -- memory never ran out, and one more update may be made
-abbrev pub CanBeUpdated : Option Seen → Type 0
+abbrev pub CanBeUpdated : Option EngineSeen → Type 0
 CanBeUpdated None = ⊤
 CanBeUpdated (Some e) = (e.spent ≡ false) × (length e.vertices < MOST_UPDATES)

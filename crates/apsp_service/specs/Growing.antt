@@ -1,7 +1,8 @@
 -- How a text grows by a reply, and how a sink is given one.
-use Rattle.std.specs.Prelude.{◌≡◌, ℕ, List, ◌++◌, Option, Result, Ok, Err}
+use Rattle.std.specs.Prelude.{◌≡◌, ℕ, List, ◌++◌, Result, Ok, Err}
 use Rattle.std.specs.Io.KnownBytes.{Appends}
 use Rattle.apsp_io.specs.Streams.{Rose, GrowsByPrefix}
+use Rattle.apsp_service.specs.Streams.{SinkSeen}
 use Rattle.apsp_service.specs.declared.stop.Stop.{Stop}
 use Rattle.apsp_service.specs.declared.stop.Stop.TheVariants as stop
 
@@ -10,9 +11,9 @@ abbrev pub GrowsBy : (List ℕ → Type 0) → List ℕ → List ℕ → Type 0
 GrowsBy IsReply old new = (reply : List ℕ) × IsReply reply × (new ≡ old ++ reply)
 
 -- a text was given, line by line, or a front of it
-abbrev pub LinesGiven : {A : Type 0} → Result A Stop → Option (List ℕ) → Option (List ℕ) → ℕ → ℕ → List ℕ → Type 0
-LinesGiven (Ok a) old new before now text = Appends old new text
-LinesGiven (Err stop.Source) old new before now text = ⊥
-LinesGiven (Err stop.Sink) old new before now text = GrowsByPrefix old new text × Rose before now
-LinesGiven (Err stop.Memory) old new before now text = GrowsByPrefix old new text
-LinesGiven (Err stop.Limit) old new before now text = ⊥
+abbrev pub LinesGiven : {A : Type 0} → Result A Stop → SinkSeen → SinkSeen → List ℕ → Type 0
+LinesGiven (Ok a) old new text = Appends old.held new.held text
+LinesGiven (Err stop.Source) old new text = ⊥
+LinesGiven (Err stop.Sink) old new text = GrowsByPrefix old.held new.held text × Rose old.faults new.faults
+LinesGiven (Err stop.Memory) old new text = GrowsByPrefix old.held new.held text
+LinesGiven (Err stop.Limit) old new text = ⊥

@@ -14,7 +14,7 @@ pub record IsBlockOf (n : ℕ) (commands : List Command) (b : Block) : Type 0 wh
   pub stars : All (λ (star : Star). star.vertices ≡ n) b.plan.stars
   pub asks : All (IsAskOf b.plan) b.asks
 
-pub record IsLawful (s : State) : Type 0 where
+pub record IsLawfulState (s : State) : Type 0 where
   pub most : s.vertices ≤ MOST_VERTICES
   pub block : IfSome s.block (IsBlockOf s.vertices s.commands)
   pub live : s.readers ≡ None → s.block ≡ None

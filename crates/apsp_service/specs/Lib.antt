@@ -1,3 +1,4 @@
+pub mod Streams
 pub mod Distance
 pub mod Path
 pub mod Stats

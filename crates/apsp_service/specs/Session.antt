@@ -40,8 +40,8 @@ pub record State : Type 0 where
   pub lines : ℕ
   pub refused : Bool
 
-abbrev pub opening : Option ℕ → Bool → State
-opening readers smooth = record {
+abbrev pub first_state : Option ℕ → Bool → State
+first_state readers smooth = record {
   vertices = 0;
   smooth = smooth;
   readers = readers;
@@ -195,9 +195,9 @@ HasSession start bytes text status =
 
 -- an input of these bytes has this text and this status
 abbrev pub Session : Mode → List ℕ → List ℕ → ℕ → Type 0
-Session (mode.Run workers smooth) bytes text status = HasSession (opening None smooth) bytes text status
+Session (mode.Run workers smooth) bytes text status = HasSession (first_state None smooth) bytes text status
 Session (mode.Live workers readers slots smooth) bytes text status =
-    HasSession (opening (Some readers) smooth) bytes text status
+    HasSession (first_state (Some readers) smooth) bytes text status
 Session mode.Check bytes text status = IsChecked bytes text status
 Session (mode.Load n seed workers) bytes text status = IsLoadReply n seed text × (status ≡ 0)
 
@@ -224,8 +224,8 @@ pub record HasOneStatus (mode : Mode) (bytes : List ℕ) : Type 0 where
 
 -- the replies to whole lines alone; the modes without lines have none before their end
 abbrev pub HasWholeReplies : Mode → List ℕ → List ℕ → Type 0
-HasWholeReplies (mode.Run workers smooth) bytes text = HaveReplies (opening None smooth) (whole_lines bytes) text
+HasWholeReplies (mode.Run workers smooth) bytes text = HaveReplies (first_state None smooth) (whole_lines bytes) text
 HasWholeReplies (mode.Live workers readers slots smooth) bytes text =
-    HaveReplies (opening (Some readers) smooth) (whole_lines bytes) text
+    HaveReplies (first_state (Some readers) smooth) (whole_lines bytes) text
 HasWholeReplies mode.Check bytes text = text ≡ []
 HasWholeReplies (mode.Load n seed workers) bytes text = text ≡ []

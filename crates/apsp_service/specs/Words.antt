@@ -1,9 +1,9 @@
 -- The words of the command line.
-use Rattle.std.specs.Prelude.{ℕ, ◌≤◌, ⊤, Bool, true, false, ◌&&◌, ◌||◌, nat_le, is_some, List, [], ◌∷◌, length, Option, Some, None, IfSome, option_map, option_and_then, unwrap_or, codes, if◌then◌else◌}
+use Rattle.std.specs.Prelude.{ℕ, ◌≤◌, ⊤, Bool, true, false, ◌&&◌, ◌||◌, nat_le, is_some, List, [], ◌∷◌, Option, Some, None, IfSome, option_map, option_and_then, unwrap_or, codes, if◌then◌else◌}
 use Rattle.std.specs.Str.{bytes_eq}
 use Rattle.apsp_model.specs.Limits.{IsWorkerCount, IsReaderCount, IsSlotCount}
 use Rattle.apsp_model.specs.declared.TheConstants.{MOST_WORKERS, MOST_READERS, LEAST_SLOTS, MOST_SLOTS}
-use Rattle.script_reader.specs.Numbers.{number_of}
+use Rattle.numerals.specs.Numbers.{number_of}
 use Rattle.apsp_service.specs.declared.words.Mode.{Mode}
 use Rattle.apsp_service.specs.declared.words.Mode.TheVariants as mode
 use Rattle.apsp_service.specs.declared.words.Options.{Options}
@@ -22,7 +22,7 @@ HasWorkers (mode.Load n seed workers) = IsLoadSize n × IsWorkerCount workers
 
 -- the number that a word is, of few digits
 abbrev pub word_number : List ℕ → Option ℕ
-word_number word = if nat_le (length word) MOST_DIGITS then number_of word else None
+word_number word = number_of MOST_DIGITS word
 
 -- the number that a word is, from least to most
 abbrev pub number_in : ℕ → ℕ → List ℕ → Option ℕ

@@ -6,6 +6,7 @@ ghost use Rattle.cert_check.specs.Tests.{IsVerdict};
 ghost use Rattle.apsp_service.specs.Check.{IsChecked, verdict_text, verdict_status, fault_text};
 ghost use Rattle.apsp_service.specs.Ending.{EndsAs, AllTaken, MoreEnds};
 ghost use Rattle.apsp_service.specs.Outcome.{status_after};
+ghost use Rattle.apsp_service.specs.Streams.{source_seen, streams};
 
 use crate::replies::{put_fault, put_verdict};
 use crate::run::{MOST_INPUT, PIECE, take};
@@ -30,8 +31,8 @@ pub fn check_input<S: Source, K: Sink>(
     source: &mut S,
     sink: &mut K,
 ) -> Result<bool, Stop>
-    ensures ends { EndsAs mode.Check result (S.left source.old) (S.left source.new) (K.held sink.old) (K.held sink.new)
-        (S.faults source.old) (S.faults source.new) (K.faults sink.old) (K.faults sink.new) }
+    ensures ends { EndsAs mode.Check result
+        (streams S.Source K.Sink source.old sink.old) (streams S.Source K.Sink source.new sink.new) }
     ensures source_later { S.faults source.old ≤ S.faults source.new }
     ensures sink_later { K.faults sink.old ≤ K.faults sink.new }
 {
@@ -44,7 +45,7 @@ pub fn check_input<S: Source, K: Sink>(
 
 /// All bytes of the source.
 fn take_all<S: Source>(alloc: Global, source: &mut S) -> Result<Vec<u8>, Stop>
-    ensures ends { AllTaken result (S.left source.old) (S.left source.new) (S.faults source.old) (S.faults source.new) }
+    ensures ends { AllTaken result (source_seen S.Source source.old) (source_seen S.Source source.new) }
     ensures later { S.faults source.old ≤ S.faults source.new }
 {
     let mut buffer = [0; PIECE];
@@ -65,7 +66,7 @@ fn take_more<S: Source>(
 ) -> Result<usize, Stop>
     requires few { length bytes.old.items ≤ MOST_INPUT }
     requires room { length buffer.old ≡ PIECE }
-    ensures ends { MoreEnds result (S.left source.old) (S.left source.new) (S.faults source.old) (S.faults source.new)
+    ensures ends { MoreEnds result (source_seen S.Source source.old) (source_seen S.Source source.new)
         bytes.old.items bytes.new.items }
     ensures later { S.faults source.old ≤ S.faults source.new }
 {

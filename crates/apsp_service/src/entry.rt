@@ -1,11 +1,12 @@
-ghost use Rattle.std.specs.Prelude.{◌≡◌, ◌⊎◌, ◌↔◌, ◌+◌, ◌≤◌, List, [], ℕ, length, map, None, IfSome, IsSome, false, string_bytes};
+ghost use Rattle.std.specs.Prelude.{◌≡◌, ◌⊎◌, ◌↔◌, ◌+◌, ◌≤◌, [], map, None, IfSome, IsSome, false, string_bytes};
 ghost use Rattle.block_run.specs.Run.{CanRun, HasRun};
 ghost use Rattle.apsp_service.specs.Words.{HasWorkers, mode_of};
 ghost use Rattle.std.specs.Io.KnownBytes.{Appends};
 ghost use Rattle.apsp_model.specs.Limits.{IsWorkerCount, IsReaderCount, IsSlotCount};
 ghost use Rattle.apsp_io.specs.Streams.{Rose};
-ghost use Rattle.apsp_service.specs.Session.{Session, has_blocks};
-ghost use Rattle.apsp_service.specs.Outcome.{status_after, ReadToEnd, IsStatus, IsAnswered, IsStoppedEarly, IsCutShort, IsComplete, IsCheck, IsLoad, IsLoadEnd, IsLoadStatus, TookMoreThan, TookAtMost, SaysTooMuch, SaysRefused};
+ghost use Rattle.apsp_service.specs.Streams.{streams};
+ghost use Rattle.apsp_service.specs.Session.{has_blocks};
+ghost use Rattle.apsp_service.specs.Outcome.{status_after, ReadToEnd, IsStatus, IsAnswered, IsStoppedEarly, IsCutShort, IsCheck, IsLoad, IsLoadEnd, IsLoadStatus, TookMoreThan, TookAtMost, SaysTooMuch, SaysRefused, CompletesUnlessFailed};
 ghost use Rattle.apsp_service.specs.Ending.{EndsAs};
 
 use crate::blocks::{LiveBlocks, NoBlocks};
@@ -44,8 +45,8 @@ pub fn script<S: Source, K: Sink, G: Gate, R: Threads + Sync>(
     requires workers { HasWorkers mode.now }
     requires no_blocks { has_blocks mode.now ≡ false }
     // Of a status: the session of the whole input gives it, or what failed has counted a fault.
-    ensures answered { ReadToEnd result
-        → IsAnswered mode.now (S.left source.old) (S.left source.new) (K.held sink.old) (K.held sink.new) result }
+    ensures answered { ReadToEnd result → IsAnswered mode.now
+        (streams S.Source K.Sink source.old sink.old) (streams S.Source K.Sink source.new sink.new) result }
     ensures source_failed { result ≡ 3 → Rose (S.faults source.old) (S.faults source.new) }
     ensures sink_failed { result ≡ 4 → Rose (K.faults sink.old) (K.faults sink.new) }
     ensures too_much { result ≡ 6
@@ -55,18 +56,16 @@ pub fn script<S: Source, K: Sink, G: Gate, R: Threads + Sync>(
     // Which status comes: want of memory aside, and what fails.
     ensures says_too_much { TookMoreThan MOST_INPUT (S.left source.old) (S.left source.new)
         → SaysTooMuch result (K.faults sink.old) (K.faults sink.new) }
-    ensures says_refused { IfSome (S.left source.old) (λ input. (text : List ℕ) → Session mode.now input text 1
-        → SaysRefused result (S.left source.old) (S.left source.new) (S.faults source.old) (S.faults source.new)
-        (K.faults sink.old) (K.faults sink.new)) }
-    ensures complete { IfSome (S.left source.old) (λ input. length input ≤ MOST_INPUT
-        → (Rose (S.faults source.old) (S.faults source.new) → ⊥) → (Rose (K.faults sink.old) (K.faults sink.new) → ⊥)
-        → (result ≡ 5) ⊎ IsComplete mode.now input (K.held sink.old) (K.held sink.new) result) }
+    ensures says_refused { SaysRefused mode.now
+        (streams S.Source K.Sink source.old sink.old) (streams S.Source K.Sink source.new sink.new) result }
+    ensures complete { CompletesUnlessFailed mode.now
+        (streams S.Source K.Sink source.old sink.old) (streams S.Source K.Sink source.new sink.new) result }
 
     // What was written by a run that ended early.
-    ensures stopped_early { (result ≡ 3) ⊎ (result ≡ 6)
-        → IsStoppedEarly mode.now (S.left source.old) (S.left source.new) (K.held sink.old) (K.held sink.new) }
-    ensures cut_short { (result ≡ 4) ⊎ (result ≡ 5)
-        → IfSome (S.left source.old) (λ input. IsCutShort mode.now input (K.held sink.old) (K.held sink.new)) }
+    ensures stopped_early { (result ≡ 3) ⊎ (result ≡ 6) → IsStoppedEarly mode.now
+        (streams S.Source K.Sink source.old sink.old) (streams S.Source K.Sink source.new sink.new) }
+    ensures cut_short { (result ≡ 4) ⊎ (result ≡ 5) → IsCutShort mode.now
+        (streams S.Source K.Sink source.old sink.old) (streams S.Source K.Sink source.new sink.new) }
     ensures nothing_written { IsCheck mode.now → (result ≡ 3) ⊎ ((result ≡ 5) ⊎ (result ≡ 6))
         → Appends (K.held sink.old) (K.held sink.new) [] }
 
@@ -92,8 +91,8 @@ fn run_as<S: Source, K: Sink, G: Gate, R: Threads + Sync>(
 ) -> Result<bool, Stop>
     requires workers { HasWorkers mode.now }
     requires no_blocks { has_blocks mode.now ≡ false }
-    ensures ends { EndsAs mode.now result (S.left source.old) (S.left source.new) (K.held sink.old) (K.held sink.new)
-        (S.faults source.old) (S.faults source.new) (K.faults sink.old) (K.faults sink.new) }
+    ensures ends { EndsAs mode.now result
+        (streams S.Source K.Sink source.old sink.old) (streams S.Source K.Sink source.new sink.new) }
     ensures load { IsLoad mode.now → IsLoadEnd result }
     ensures load_unread { IsLoad mode.now → source.new ≡ source.old }
     ensures source_later { S.faults source.old ≤ S.faults source.new }
@@ -128,8 +127,8 @@ pub fn top<S: Source, K: Sink, G: Gate, R: Threads + Wait + Sync>(
     ensures sink_untouched { result ≡ 2 → sink.new ≡ sink.old }
 
     // Of a status: the session of the whole input gives it, or what failed has counted a fault.
-    ensures answered { IfSome (mode_of (map string_bytes words.now)) (λ mode. ReadToEnd result
-        → IsAnswered mode (S.left source.old) (S.left source.new) (K.held sink.old) (K.held sink.new) result) }
+    ensures answered { IfSome (mode_of (map string_bytes words.now)) (λ mode. ReadToEnd result → IsAnswered mode
+        (streams S.Source K.Sink source.old sink.old) (streams S.Source K.Sink source.new sink.new) result) }
     ensures source_failed { result ≡ 3 → Rose (S.faults source.old) (S.faults source.new) }
     ensures sink_failed { result ≡ 4 → Rose (K.faults sink.old) (K.faults sink.new) }
     ensures too_much { result ≡ 6
@@ -140,20 +139,18 @@ pub fn top<S: Source, K: Sink, G: Gate, R: Threads + Wait + Sync>(
     ensures says_too_much { IsSome (mode_of (map string_bytes words.now))
         → TookMoreThan MOST_INPUT (S.left source.old) (S.left source.new)
         → SaysTooMuch result (K.faults sink.old) (K.faults sink.new) }
-    ensures says_refused { IfSome (mode_of (map string_bytes words.now))
-        (λ mode. IfSome (S.left source.old) (λ input. (text : List ℕ) → Session mode input text 1
-        → SaysRefused result (S.left source.old) (S.left source.new) (S.faults source.old) (S.faults source.new)
-        (K.faults sink.old) (K.faults sink.new))) }
-    ensures complete { IfSome (mode_of (map string_bytes words.now))
-        (λ mode. IfSome (S.left source.old) (λ input. length input ≤ MOST_INPUT
-        → (Rose (S.faults source.old) (S.faults source.new) → ⊥) → (Rose (K.faults sink.old) (K.faults sink.new) → ⊥)
-        → (result ≡ 5) ⊎ IsComplete mode input (K.held sink.old) (K.held sink.new) result)) }
+    ensures says_refused { IfSome (mode_of (map string_bytes words.now)) (λ mode. SaysRefused mode
+        (streams S.Source K.Sink source.old sink.old) (streams S.Source K.Sink source.new sink.new) result) }
+    ensures complete { IfSome (mode_of (map string_bytes words.now)) (λ mode. CompletesUnlessFailed mode
+        (streams S.Source K.Sink source.old sink.old) (streams S.Source K.Sink source.new sink.new) result) }
 
     // What was written by a run that ended early.
-    ensures stopped_early { IfSome (mode_of (map string_bytes words.now)) (λ mode. (result ≡ 3) ⊎ (result ≡ 6)
-        → IsStoppedEarly mode (S.left source.old) (S.left source.new) (K.held sink.old) (K.held sink.new)) }
-    ensures cut_short { IfSome (mode_of (map string_bytes words.now)) (λ mode. (result ≡ 4) ⊎ (result ≡ 5)
-        → IfSome (S.left source.old) (λ input. IsCutShort mode input (K.held sink.old) (K.held sink.new))) }
+    ensures stopped_early { IfSome (mode_of (map string_bytes words.now))
+        (λ mode. (result ≡ 3) ⊎ (result ≡ 6) → IsStoppedEarly mode
+        (streams S.Source K.Sink source.old sink.old) (streams S.Source K.Sink source.new sink.new)) }
+    ensures cut_short { IfSome (mode_of (map string_bytes words.now))
+        (λ mode. (result ≡ 4) ⊎ (result ≡ 5) → IsCutShort mode
+        (streams S.Source K.Sink source.old sink.old) (streams S.Source K.Sink source.new sink.new)) }
     ensures nothing_written { IfSome (mode_of (map string_bytes words.now))
         (λ mode. IsCheck mode → (result ≡ 3) ⊎ ((result ≡ 5) ⊎ (result ≡ 6))
         → Appends (K.held sink.old) (K.held sink.new) []) }

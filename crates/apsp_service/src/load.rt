@@ -1,11 +1,12 @@
 //! A run over generated input: nothing is read, and one line says what holds at its end.
 
-ghost use Rattle.std.specs.Prelude.{◌≡◌, ◌≤◌, ◌++◌, ℕ, List, Option, OnOk, string_bytes};
+ghost use Rattle.std.specs.Prelude.{◌≡◌, ◌≤◌, ◌++◌, OnOk, string_bytes};
 ghost use Rattle.apsp_model.specs.Limits.{IsWorkerCount};
 ghost use Rattle.apsp_service.specs.Words.{IsLoadSize};
 ghost use Rattle.apsp_service.specs.Load.{load_text};
 ghost use Rattle.apsp_service.specs.Outcome.{IsLoadEnd};
 ghost use Rattle.apsp_service.specs.Ending.{EndsAs};
+ghost use Rattle.apsp_service.specs.Streams.{SourceSeen, sink_seen};
 ghost use Rattle.apsp_service.specs.declared.words.Mode.TheVariants as mode;
 
 use crate::session::give;
@@ -30,8 +31,9 @@ pub fn load<K: Sink, G: Gate, R: Threads + Sync>(
     requires size { IsLoadSize n }
     requires workers { IsWorkerCount workers }
     // No source is touched, whatever it has left.
-    ensures ends { (left : Option (List ℕ)) (before : ℕ) → EndsAs (mode.Load n seed workers) result left left
-        (K.held sink.old) (K.held sink.new) before before (K.faults sink.old) (K.faults sink.new) }
+    ensures ends { (source : SourceSeen) → EndsAs (mode.Load n seed workers) result
+        (record { source = source; sink = sink_seen K.Sink sink.old })
+        (record { source = source; sink = sink_seen K.Sink sink.new }) }
     ensures load { IsLoadEnd result }
     ensures later { K.faults sink.old ≤ K.faults sink.new }
 {

@@ -18,6 +18,7 @@ ghost use Rattle.apsp_service.specs.Growing.{GrowsBy, LinesGiven};
 ghost use Rattle.apsp_service.specs.Path.{IsPathReply};
 ghost use Rattle.apsp_service.specs.Replies.{entry_text, walk_text};
 ghost use Rattle.apsp_service.specs.Session.{star_with};
+ghost use Rattle.apsp_service.specs.Streams.{sink_seen};
 ghost use Rattle.apsp_service.specs.Stats.{IsStatsReply};
 
 use crate::block::OpenBlock;
@@ -50,16 +51,16 @@ pub struct Network {
 }
 
 impl Model for Network {
-    ghost use Rattle.history_engine.specs.Seen.{Seen, seen_code};
-    ghost use Rattle.apsp_service.specs.NetworkInside.{HasRoom};
+    ghost use Rattle.history_engine.specs.Seen.{EngineSeen, engine_seen_code};
+    ghost use Rattle.apsp_service.specs.NetworkInside.{HasRoomForAnswers};
 
-    ghost Value = { Seen };
+    ghost Value = { EngineSeen };
 
-    ghost coded = { seen_code };
+    ghost coded = { engine_seen_code };
 
     ghost view = { λ n. n.engine };
 
-    ghost invariant = { HasRoom };
+    ghost invariant = { HasRoomForAnswers };
 }
 
 impl Network {
@@ -263,19 +264,12 @@ impl Network {
         requires not_spent { self.old.spent ≡ false }
         requires few { length self.old.vertices < MOST_UPDATES }
         ensures gives { (text : List ℕ) × IsTextOf (version_of self.old) text
-            × LinesGiven result (K.held sink.old) (K.held sink.new) (K.faults sink.old) (K.faults sink.new) text }
+            × LinesGiven result (sink_seen K.Sink sink.old) (sink_seen K.Sink sink.new) text }
         ensures same { self.new ≡ self.old }
         ensures later { K.faults sink.old ≤ K.faults sink.new }
     {
-        graph_has_all_vertices(&self.engine);
+        self.engine.graph_has_each_vertex();
         self.engine.fill(&mut self.version);
         given(write_certificate(&self.version, sink))
     }
-}
-
-/// The graph of an engine has as many vertices as the engine.
-fn graph_has_all_vertices(engine: &Engine)
-    ensures { engine.now.graph.vertices ≡ engine.now.opening }
-{
-    let _graph = engine.graph();
 }

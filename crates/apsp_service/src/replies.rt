@@ -2,7 +2,7 @@
 
 ghost use Rattle.std.specs.Prelude.{◌≡◌, ◌++◌, OnOk, codes, string_bytes};
 ghost use Rattle.std.specs.List.{flat_map};
-ghost use Rattle.path_arena.specs.Arena.{list_of, weight_of};
+ghost use Rattle.path_arena.specs.Arena.{list_of, weight_of_id};
 ghost use Rattle.history_engine.specs.Answers.{numbers};
 ghost use Rattle.apsp_service.specs.Check.{reason_text, verdict_text, fault_text};
 ghost use Rattle.apsp_service.specs.Replies.{number_text, entry_text, dist_text, stats_text, birth_text, age_text, error_text, answer_text, answer_walk_text};
@@ -25,7 +25,7 @@ pub fn put_dist(text: &mut String, x: u32, y: u32, distance: Option<u64>) -> Res
 /// A least walk behind its weight.
 pub fn put_walk(text: &mut String, least: &Least<'_>) -> Result<(), AllocError>
     ensures { OnOk result (string_bytes text.new ≡ string_bytes text.old
-        ++ number_text (weight_of least.now.book.arena least.now.id) ++ codes " walk"
+        ++ number_text (weight_of_id least.now.book.arena least.now.id) ++ codes " walk"
         ++ flat_map number_text (list_of least.now.book.arena least.now.id)) }
 {
     write!(text, " {} walk", least.weight())?;

@@ -1,10 +1,11 @@
 //! A run over an input: from the source, piece by piece, to the sink, reply by reply.
 
-ghost use Rattle.std.specs.Prelude.{◌≡◌, ◌<◌, ◌≤◌, ◌+◌, ◌^◌, List, [], ℕ, length, take, Option, OnOk, IfOk, false};
-ghost use Rattle.apsp_service.specs.Session.{State, opening};
+ghost use Rattle.std.specs.Prelude.{◌≡◌, ◌<◌, ◌≤◌, ◌+◌, ◌^◌, List, [], ℕ, length, take, OnOk, IfOk, false};
+ghost use Rattle.apsp_service.specs.Streams.{Streams, source_seen, sink_seen, streams};
+ghost use Rattle.apsp_service.specs.Session.{State, first_state};
 ghost use Rattle.apsp_service.specs.Standing.{HasStateAndContent, HasSomeStateAndContent, TakesPiece};
-ghost use Rattle.apsp_service.specs.Lawful.{IsLawful};
-ghost use Rattle.apsp_service.specs.Running.{SoFar, PieceEnds, AllEnds, RunEnds, TakeEnds};
+ghost use Rattle.apsp_service.specs.Lawful.{IsLawfulState};
+ghost use Rattle.apsp_service.specs.Running.{SoFar, PieceEnds, with_faults_of, AllEnds, RunEnds, TakeEnds};
 
 use crate::blocks::Blocks;
 use crate::executor::Executor;
@@ -30,9 +31,8 @@ pub fn run<S: Source, K: Sink, R: Threads + Sync, G: Gate, B: Blocks>(
     sink: &mut K,
 ) -> Result<bool, Stop>
     requires runs { B.ready executor.now.blocks.now }
-    ensures ends { RunEnds (opening (B.readers executor.now.blocks.now) smooth) result
-        (S.left source.old) (S.left source.new) (K.held sink.old) (K.held sink.new)
-        (S.faults source.old) (S.faults source.new) (K.faults sink.old) (K.faults sink.new) }
+    ensures ends { RunEnds (first_state (B.readers executor.now.blocks.now) smooth) result
+        (streams S.Source K.Sink source.old sink.old) (streams S.Source K.Sink source.new sink.new) }
     ensures source_later { S.faults source.old ≤ S.faults source.new }
     ensures sink_later { K.faults sink.old ≤ K.faults sink.new }
 {
@@ -52,10 +52,9 @@ fn answer_all<S: Source, K: Sink, R: Threads + Sync, G: Gate, B: Blocks>(
 ) -> Result<(), Stop>
     requires blocks { session.old.readers ≡ B.readers executor.now.blocks.now }
     requires runs { B.ready executor.now.blocks.now }
-    requires stands { HasStateAndContent session.old (opening session.old.readers session.old.smooth) [] }
-    ensures ends { AllEnds (opening session.old.readers session.old.smooth) result session.new
-        (S.left source.old) (S.left source.new) (K.held sink.old) (K.held sink.new)
-        (S.faults source.old) (S.faults source.new) (K.faults sink.old) (K.faults sink.new) }
+    requires stands { HasStateAndContent session.old (first_state session.old.readers session.old.smooth) [] }
+    ensures ends { AllEnds (first_state session.old.readers session.old.smooth) result session.new
+        (streams S.Source K.Sink source.old sink.old) (streams S.Source K.Sink source.new sink.new) }
     ensures readers { session.new.readers ≡ session.old.readers }
     ensures lines { OnOk result (session.new.lines ≤ MOST_INPUT) }
     ensures source_later { S.faults source.old ≤ S.faults source.new }
@@ -89,10 +88,11 @@ fn answer_piece<S: Source, K: Sink, R: Threads + Sync, G: Gate, B: Blocks>(
     requires stands { HasSomeStateAndContent session.old }
     requires opened { session.old.cutter.whole ≡ false }
     requires room { length buffer.old ≡ PIECE }
-    ensures ends { (start : State) (left held : Option (List ℕ)) (bytes : List ℕ) → IsLawful start
-        → SoFar start session.old left (S.left source.old) held (K.held sink.old) bytes → length bytes ≡ taken
-        → PieceEnds start result session.new left (S.left source.new) held (K.held sink.new)
-        (S.faults source.old) (S.faults source.new) (K.faults sink.old) (K.faults sink.new) bytes }
+    // The bytes and the replies are those from the first moment on, the faults those of this call.
+    ensures ends { (start : State) (first : Streams) (bytes : List ℕ) → IsLawfulState start
+        → SoFar start session.old first (streams S.Source K.Sink source.old sink.old) bytes → length bytes ≡ taken
+        → PieceEnds start result session.new (with_faults_of (streams S.Source K.Sink source.old sink.old) first)
+        (streams S.Source K.Sink source.new sink.new) bytes }
     ensures few { IfOk result (λ count. taken + count ≤ MOST_INPUT) }
     ensures readers { session.new.readers ≡ session.old.readers }
     ensures lines { IfOk result (λ count. session.new.lines ≤ taken + count) }
@@ -126,8 +126,8 @@ fn answer_front<K: Sink, R: Threads + Sync, G: Gate, B: Blocks>(
     requires opened { session.old.cutter.whole ≡ false }
     requires few { session.old.lines + count < 2 ^ 32 }
     ensures takes { (s : State) (content : List ℕ) → HasStateAndContent session.old s content
-        → TakesPiece result session.new (K.held sink.old) (K.held sink.new) (K.faults sink.old)
-        (K.faults sink.new) s content (take count buffer.now) }
+        → TakesPiece result session.new (sink_seen K.Sink sink.old) (sink_seen K.Sink sink.new) s content
+        (take count buffer.now) }
     ensures readers { session.new.readers ≡ session.old.readers }
     ensures lines { OnOk result (session.new.lines ≤ session.old.lines + count) }
     ensures opened { OnOk result (session.new.cutter.whole ≡ false) }
@@ -140,8 +140,7 @@ fn answer_front<K: Sink, R: Threads + Sync, G: Gate, B: Blocks>(
 pub fn take<S: Source>(source: &mut S, buffer: &mut [u8], room: usize) -> Result<usize, Stop>
     requires some { 0 < room }
     requires inside { room ≤ length buffer.old }
-    ensures ends { TakeEnds result (S.left source.old) (S.left source.new) (S.faults source.old)
-        (S.faults source.new) room buffer.new }
+    ensures ends { TakeEnds result (source_seen S.Source source.old) (source_seen S.Source source.new) room buffer.new }
     ensures later { S.faults source.old ≤ S.faults source.new }
 {
     match source.take(&mut buffer[..room]) {

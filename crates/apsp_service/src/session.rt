@@ -1,14 +1,15 @@
 //! One session: the lines of an input, answered as they become whole.
 
 ghost use Rattle.std.specs.Prelude.{◌≡◌, Option, Some, None, ◌<◌, ◌≤◌, ◌+◌, ◌^◌, [], ◌∷◌, List, ℕ, length, take, IfOk, OnOk, IsTrue, ◌↔◌, false, string_bytes};
-ghost use Rattle.script_reader.specs.Answer.{IsAnswer, Fits};
-ghost use Rattle.apsp_service.specs.Session.{State, opening, context_at, context_of, accepted, counted, HasReply, HasBlockReply, after_line, after_lines, ending_of, has_refused};
+ghost use Rattle.script_reader.specs.Answer.{MeaningIs, FitsContext};
+ghost use Rattle.apsp_service.specs.Streams.{sink_seen};
+ghost use Rattle.apsp_service.specs.Session.{State, first_state, context_at, context_of, accepted, counted, HasReply, HasBlockReply, after_line, after_lines, ending_of, has_refused};
 ghost use Rattle.script_reader.specs.Meaning.{line_of};
 ghost use Rattle.script_reader.specs.Input.{line_if_some};
 ghost use Rattle.apsp_service.specs.Giving.{HasInside, CanBeUpdated, TextGiven, IsRepliedBy, CertificateGiven, vertices_in, GivingEnds};
 ghost use Rattle.apsp_service.specs.Growing.{GrowsBy, LinesGiven};
 ghost use Rattle.graph_store.specs.Plan.{hi_of};
-ghost use Rattle.history_engine.specs.Seen.{Seen};
+ghost use Rattle.history_engine.specs.Seen.{EngineSeen};
 ghost use Rattle.std.specs.List.{flat_map};
 ghost use Rattle.apsp_service.specs.Blocks.{last_graph};
 ghost use Rattle.apsp_service.specs.Replies.{answer_text};
@@ -59,7 +60,7 @@ pub struct Session {
 impl Session {
     /// Before the first line.
     pub fn new(alloc: Global, readers: Option<u32>, smooth: bool) -> Result<Session, Memory>
-        ensures stands { IfOk result (λ s. HasState s (opening s.readers s.smooth)) }
+        ensures stands { IfOk result (λ s. HasState s (first_state s.readers s.smooth)) }
         ensures readers { IfOk result (λ s. s.readers ≡ readers) }
         ensures smooth { IfOk result (λ s. s.smooth ≡ smooth) }
         ensures content { IfOk result (λ s. StandsFor s.cutter []) }
@@ -108,8 +109,9 @@ impl Session {
         requires few { self.now.lines < 2 ^ 32 }
         requires stands { (s : State) × HasState self.now s }
         ensures reading { (s : State) (content : List ℕ) → HasState self.now s → StandsFor self.now.cutter content
-            → IsAnswer (line_of (context_of s) content) result }
-        ensures fits { IfOk result (Fits (context_at (vertices_in self.now.network) self.now.readers self.now.block)) }
+            → MeaningIs (line_of (context_of s) content) result }
+        ensures fits { IfOk result
+            (FitsContext (context_at (vertices_in self.now.network) self.now.readers self.now.block)) }
     {
         if self.cutter.too_long() {
             return Err(LineError::Refused {
@@ -126,7 +128,7 @@ impl Session {
         executor: &Executor<'_, R, G, B>,
         line: Line,
     ) -> Result<(), AllocError>
-        requires fits { Fits (context_at (vertices_in self.old.network) self.old.readers self.old.block) line }
+        requires fits { FitsContext (context_at (vertices_in self.old.network) self.old.readers self.old.block) line }
         requires text_alone { line ≡ Line.Cert → ⊥ }
         requires goes_on { line ≡ Line.End → ⊥ }
         requires ready { CanBeUpdated self.old.network }
@@ -247,8 +249,7 @@ impl Session {
         ensures stands { (s : State) (content : List ℕ) → HasState self.old s → StandsFor self.old.cutter content
             → OnOk result (HasState self.new (after_line s content)) }
         ensures gives { (s : State) (content : List ℕ) → HasState self.old s → StandsFor self.old.cutter content
-            → GivingEnds result (K.held sink.old) (K.held sink.new) (K.faults sink.old) (K.faults sink.new) s
-            (content ∷ []) }
+            → GivingEnds result (sink_seen K.Sink sink.old) (sink_seen K.Sink sink.new) s (content ∷ []) }
         ensures readers { self.new.readers ≡ self.old.readers }
         ensures lines { self.new.lines ≡ self.old.lines + 1 }
         ensures later { K.faults sink.old ≤ K.faults sink.new }
@@ -266,7 +267,7 @@ impl Session {
         requires some { 0 < vertices_in self.old.network }
         ensures stands { (s : State) → HasState self.old s → HasState self.new s }
         ensures gives { (s : State) → HasState self.old s
-            → CertificateGiven result (K.held sink.old) (K.held sink.new) (K.faults sink.old) (K.faults sink.new) s }
+            → CertificateGiven result (sink_seen K.Sink sink.old) (sink_seen K.Sink sink.new) s }
         ensures readers { self.new.readers ≡ self.old.readers }
         ensures lines { self.new.lines ≡ self.old.lines }
         ensures later { K.faults sink.old ≤ K.faults sink.new }
@@ -294,8 +295,7 @@ impl Session {
         ensures used { IfOk result (λ used. 0 < used) }
         ensures inside { IfOk result (λ used. used ≤ length piece.now) }
         ensures takes { (s : State) (content : List ℕ) → HasStateAndContent self.old s content
-            → TakesFront result self.new (K.held sink.old) (K.held sink.new) (K.faults sink.old)
-            (K.faults sink.new) s content piece.now }
+            → TakesFront result self.new (sink_seen K.Sink sink.old) (sink_seen K.Sink sink.new) s content piece.now }
         ensures lines { IfOk result (λ used. self.new.lines ≤ self.old.lines + used) }
         ensures opened { OnOk result (self.new.cutter.whole ≡ false) }
         ensures readers { self.new.readers ≡ self.old.readers }
@@ -322,8 +322,7 @@ impl Session {
         requires opened { self.old.cutter.whole ≡ false }
         requires few { self.old.lines + length piece.now < 2 ^ 32 }
         ensures takes { (s : State) (content : List ℕ) → HasStateAndContent self.old s content
-            → TakesPiece result self.new (K.held sink.old) (K.held sink.new) (K.faults sink.old)
-            (K.faults sink.new) s content piece.now }
+            → TakesPiece result self.new (sink_seen K.Sink sink.old) (sink_seen K.Sink sink.new) s content piece.now }
         ensures lines { OnOk result (self.new.lines ≤ self.old.lines + length piece.now) }
         ensures opened { OnOk result (self.new.cutter.whole ≡ false) }
         ensures readers { self.new.readers ≡ self.old.readers }
@@ -348,8 +347,7 @@ impl Session {
         requires runs { B.ready executor.now.blocks.now }
         requires stands { HasSomeStateAndContent self.old }
         ensures gives { (s : State) (content : List ℕ) → HasStateAndContent self.old s content
-            → GivingEnds result (K.held sink.old) (K.held sink.new) (K.faults sink.old) (K.faults sink.new) s
-            (line_if_some content) }
+            → GivingEnds result (sink_seen K.Sink sink.old) (sink_seen K.Sink sink.new) s (line_if_some content) }
         ensures stands { (s : State) (content : List ℕ) → HasStateAndContent self.old s content
             → OnOk result (HasState self.new (after_lines s (line_if_some content))) }
         ensures lines { OnOk result (self.new.lines ≤ self.old.lines + 1) }
@@ -374,8 +372,7 @@ impl Session {
     pub fn finish<K: Sink>(&mut self, sink: &mut K) -> Result<(), Stop>
         requires few { self.old.lines + 1 < 2 ^ 32 }
         ensures gives { (s : State) → HasState self.old s
-            → LinesGiven result (K.held sink.old) (K.held sink.new) (K.faults sink.old) (K.faults sink.new)
-            (ending_of s) }
+            → LinesGiven result (sink_seen K.Sink sink.old) (sink_seen K.Sink sink.new) (ending_of s) }
         ensures kept { (s : State) → HasState self.old s → HasState self.new s }
         ensures later { K.faults sink.old ≤ K.faults sink.new }
     {
@@ -397,7 +394,7 @@ impl Session {
 
 /// Gives answers, each by itself.
 fn give_answers<K: Sink>(sink: &mut K, text: &mut String, answers: &[Answer]) -> Result<(), Stop>
-    ensures given { LinesGiven result (K.held sink.old) (K.held sink.new) (K.faults sink.old) (K.faults sink.new)
+    ensures given { LinesGiven result (sink_seen K.Sink sink.old) (sink_seen K.Sink sink.new)
         (flat_map answer_text answers.now) }
     ensures later { K.faults sink.old ≤ K.faults sink.new }
 {
@@ -411,8 +408,7 @@ fn give_answers<K: Sink>(sink: &mut K, text: &mut String, answers: &[Answer]) ->
 
 /// Gives a reply, where there is one.
 pub fn give<K: Sink>(sink: &mut K, text: &str) -> Result<(), Stop>
-    ensures given { TextGiven result (K.held sink.old) (K.held sink.new) (K.faults sink.old)
-        (K.faults sink.new) text.now }
+    ensures given { TextGiven result (sink_seen K.Sink sink.old) (sink_seen K.Sink sink.new) text.now }
     ensures later { K.faults sink.old ≤ K.faults sink.new }
 {
     if text.is_empty() {
@@ -433,7 +429,7 @@ fn execute_outside_block<R: Threads + Sync, G: Gate, B: Blocks>(
     text: &mut String,
     line: Line,
 ) -> Result<(), AllocError>
-    requires fits { (readers : Option ℕ) × Fits (context_at network.old.opening readers None) line }
+    requires fits { (readers : Option ℕ) × FitsContext (context_at network.old.opening readers None) line }
     requires goes_on { (n : ℕ) → line ≡ Line.Vertices n → ⊥ }
     requires text_alone { line ≡ Line.Cert → ⊥ }
     requires no_begin { line ≡ Line.Block → ⊥ }
@@ -466,10 +462,10 @@ fn execute_outside_block<R: Threads + Sync, G: Gate, B: Blocks>(
 /// Does what a line asks for in a block other than its end. There it has no reply.
 fn execute_in_block(block: &mut OpenBlock, line: Line) -> Result<(), AllocError>
     requires fits { (readers : Option ℕ)
-        × Fits (context_at (last_graph block.old.plan).vertices readers (Some block.old)) line }
+        × FitsContext (context_at (last_graph block.old.plan).vertices readers (Some block.old)) line }
     requires few { hi_of block.old.plan < MOST_UPDATES }
     requires goes_on { line ≡ Line.End → ⊥ }
-    ensures { (e : Seen) (s : State) → HasInside (Some e) (Some block.old) s
+    ensures { (e : EngineSeen) (s : State) → HasInside (Some e) (Some block.old) s
         → OnOk result (HasInside (Some e) (Some block.new) (accepted (counted s) line)) }
 {
     match line {

@@ -4,7 +4,7 @@ ghost use Rattle.std.specs.Prelude.{◌≡◌, ◌≤◌, IfSome, map, string_by
 ghost use Rattle.apsp_service.specs.Words.{HasWorkers, MayWork, mode_of, run_of, live_of, check_of, load_of, drawn_of, no_options, options_from, with_smooth, with_number, number_in, word_number};
 
 use apsp_model::{LEAST_SLOTS, MOST_READERS, MOST_SLOTS, MOST_WORKERS};
-use script_reader::number_of;
+use numerals::number_of;
 
 /// The workers of a mode whose words do not say how many.
 pub const WORKERS: u32 = 4;
@@ -236,8 +236,5 @@ fn number_in(least: u32, most: u32, word: &str) -> Option<u32>
 fn word_number(word: &str) -> Option<u64>
     ensures { result ≡ word_number word.now }
 {
-    if word.len() > MOST_DIGITS {
-        return None;
-    }
-    number_of(word.as_bytes())
+    number_of(word.as_bytes(), MOST_DIGITS)
 }
