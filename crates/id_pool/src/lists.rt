@@ -10,8 +10,8 @@ use path_arena::PathId;
 use std::alloc::Global;
 use std::marker::Model;
 
-/// Lists of ids, by number. Contracts see them as a list of records: of each list its ids, how many
-/// of them, from the front, are marked.
+/// Lists of ids, by number. Contracts see them as a list of records: of each list its ids, and how
+/// many of them, from the front, are marked.
 ///
 /// Up to three ids stand in 16 bytes of the list's own, more in a block of one pool. A list that
 /// shrinks to three gives its block back, and the next list of that size takes it.

@@ -66,7 +66,7 @@ pub record JoinFacts (m : Arena) (l r birth : ℕ) (left right overlap : Record)
   pub lighter : overlap.weight ≤ right.weight
   pub weight_fits : left.weight + (right.weight - overlap.weight) < 2 ^ 64
   pub hops_fit : left.hops + 1 < 2 ^ 16
-  pub is : (q : Record) → q ≡ record { weight = left.weight + (right.weight - overlap.weight); birth = birth; first = left.first; second = left.second; last = right.last; hops = left.hops + 1; left = l; right = r } → IsJoinRecord m l r (joined_path m l r birth).weight birth q
+  pub is : (q : Record) → q ≡ record { weight = left.weight + (right.weight - overlap.weight); first = left.first; second = left.second; last = right.last; hops = left.hops + 1; left = l; right = r; birth = birth } → IsJoinRecord m l r (joined_path m l r birth).weight birth q
 
 pub join_facts : (m : Arena) (l r birth : ℕ) → IsArena m → CanJoin m l r → (left right overlap : Record) → IsRecordOf (path_of m l) left → IsRecordOf (path_of m r) right → IsRecordOf (path_of m left.right) overlap → JoinFacts m l r birth left right overlap
 join_facts m l r birth h can left right overlap left_is right_is overlap_is = record {

@@ -8,7 +8,7 @@ use Rattle.path_arena.specs.declared.arena.Record.{Record}
 use Rattle.path_arena.specs.declared.arena.Arena.TheInside.{Inside}
 
 abbrev pub no_record : Record
-no_record = record { weight = 0; birth = 0; first = 0; second = 0; last = 0; hops = 0; left = 0; right = 0 }
+no_record = record { weight = 0; first = 0; second = 0; last = 0; hops = 0; left = 0; right = 0; birth = 0 }
 
 abbrev pub slot_at : List (Option Record) → ℕ → Option Record
 slot_at slots key = slice_index_or slots key None

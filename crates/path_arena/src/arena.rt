@@ -21,7 +21,6 @@ use std::marker::Model;
 #[derive(Drop)]
 struct Record {
     weight: u64,
-    birth: u64,
     // Vertices and numbers of edges are below 2^16. With 16 bits each a slot of the slab takes 40 bytes.
     first: u16,
     second: u16,
@@ -30,6 +29,8 @@ struct Record {
     // The ids of the path without its last vertex, and without its first vertex.
     left: PathId,
     right: PathId,
+    // Read least, so behind what a comparison and a join read.
+    birth: u64,
 }
 
 /// Path records. Contracts see the ids of the single vertices and a finite map from ids to paths,
@@ -100,13 +101,13 @@ impl Arena {
         let (left, right) = (self.vertex(u), self.vertex(v));
         let edge = Record {
             weight: u64::from(w),
-            birth,
             first: u as u16,
             second: v as u16,
             last: v as u16,
             hops: 1,
             left,
             right,
+            birth,
         };
         put(&mut self.records, edge)
     }
@@ -126,13 +127,13 @@ impl Arena {
         let overlap = self.record(left.right);
         let joined = Record {
             weight: left.weight + (right.weight - overlap.weight),
-            birth,
             first: left.first,
             second: left.second,
             last: right.last,
             hops: left.hops + 1,
             left: l,
             right: r,
+            birth,
         };
         put(&mut self.records, joined)
     }
@@ -304,13 +305,13 @@ fn single_record(v: u32) -> Record
     let unused = PathId::new(0);
     Record {
         weight: 0,
-        birth: 0,
         first: v as u16,
         second: v as u16,
         last: v as u16,
         hops: 0,
         left: unused,
         right: unused,
+        birth: 0,
     }
 }
 
