@@ -9,7 +9,7 @@ use Rattle.path_arena.specs.Arena.{list_of}
 use Rattle.path_arena.proofs.Paths.{live_path, path_of_at, live_from_edge}
 use Rattle.path_book.specs.Book.{Book, IsBook, kept_paths}
 use Rattle.path_book.specs.Through.{AreForgotten, IsThrough, IsVictims}
-use Rattle.path_book.proofs.Changes.{kept_before, kept_still}
+use Rattle.path_book.proofs.Changes.{none_forgotten, kept_before, kept_still}
 use Rattle.path_book.proofs.Kept.{KeptAt, kept_at, live_is_kept}
 use Rattle.path_book.proofs.Readers.{single_or_edge, long_of_edge}
 
@@ -43,7 +43,7 @@ all_cleaned old new v ids was w f k = (
 
 -- where there are none nothing changes
 pub none_cleaned : (b : Book) (v : ℕ) (ids : List ℕ) → IsBook b → IsVictims b v ids → ids ≡ [] → IsCleaned v (kept_paths b) (kept_paths b)
-none_cleaned b v ids was w none = all_cleaned b b v [] was (subst (IsVictims b v) none w) (record { arena = refl; marked = refl })
+none_cleaned b v ids was w none = all_cleaned b b v [] was (subst (IsVictims b v) none w) (none_forgotten b)
 
 -- the vertex of a path is one of the book
 pub vertex_inside : (b : Book) (v : ℕ) (ids : List ℕ) → IsBook b → IsVictims b v ids → 0 < length ids → v < b.arena.vertices

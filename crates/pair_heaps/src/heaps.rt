@@ -81,7 +81,9 @@ impl Heaps {
         requires from { x < self.old.vertices }
         requires to { y < self.old.vertices }
         ensures ok { OnOk result (IsReserved self.old self.new x y) }
-        ensures room { IfOk result (λ room. IsRoomOf self.new room x y) }
+        ensures from { IfOk result (λ room. room.x ≡ x) }
+        ensures to { IfOk result (λ room. room.y ≡ y) }
+        ensures room { IfOk result (IsRoomOf self.new) }
         ensures kept { OnOk result (spare_at self.old x y ≤ spare_at self.new x y) }
         ensures err { OnErr result (self.new ≡ self.old) }
         ensures full { OnErr result (spare_at self.old x y ≡ 0) }
@@ -105,33 +107,9 @@ impl Heaps {
         ensures fits { HeapsFit self.new arena.now }
     {
         let (x, y) = (arena.first(id), arena.last(id));
-        let _ = self.insert_between(arena, id, x, y)?;
-        Ok(())
-    }
-
-    /// Adds an id to its pair, from x to y, and says whether it is the least of the pair now. Memory
-    /// comes only where the pair has no room left, and changes nothing.
-    pub fn insert_between(
-        &mut self,
-        arena: &Arena,
-        id: PathId,
-        x: u32,
-        y: u32,
-    ) -> Result<bool, Memory>
-        requires from { x < self.old.vertices }
-        requires to { y < self.old.vertices }
-        requires fits { HeapsFit self.old arena.now }
-        requires live { IsLive arena.now id }
-        requires ends { HasEnds arena.now id x y }
-        requires fresh { IsHeld self.old id → ⊥ }
-        ensures ok { OnOk result (IsInserted self.old self.new id x y) }
-        ensures least { IfOk result (λ told. TellsLeast arena.now told self.new self.old id x y) }
-        ensures err { OnErr result (self.new ≡ self.old) }
-        ensures full { OnErr result (spare_at self.old x y ≡ 0) }
-        ensures fits { HeapsFit self.new arena.now }
-    {
         let room = self.reserve_room(x, y)?;
-        Ok(self.insert_into(arena, id, room))
+        let _ = self.insert_into(arena, id, room);
+        Ok(())
     }
 
     /// Adds an id to the pair that has the room, and says whether it is the least of the pair now.
@@ -139,7 +117,7 @@ impl Heaps {
     /// Compares as many paths as the logarithm of the number of ids of the pair.
     #[inline(always)]
     pub fn insert_into(&mut self, arena: &Arena, id: PathId, room: Room) -> bool
-        requires room { IsRoomOf self.old room room.x room.y }
+        requires room { IsRoomOf self.old room }
         requires spare { 1 ≤ spare_at self.old room.x room.y }
         requires fits { HeapsFit self.old arena.now }
         requires live { IsLive arena.now id }

@@ -31,7 +31,8 @@ fn add_told(arena: &mut Arena, heaps: &mut Heaps, w: u32) -> Result<bool, Memory
 {
     let id = arena.edge(0, 2, w, 1)?;
     let (x, y) = (arena.first(id), arena.last(id));
-    heaps.insert_between(arena, id, x, y)
+    let room = heaps.reserve_room(x, y)?;
+    Ok(heaps.insert_into(arena, id, room))
 }
 
 /// The weight of the path at a place of the heap, which is taken out, and whether it was the least.

@@ -1,5 +1,5 @@
 -- What the calls change of the list of kept paths.
-use Rattle.std.specs.Prelude.{◌≡◌, ◌≢◌, ℕ, ◌<◌, ◌⊎◌, List, [], ◌∷◌, length, ◌↔◌, true, false, Some, None, is_some, unwrap_or, refl, Contains}
+use Rattle.std.specs.Prelude.{◌≡◌, ◌≢◌, ℕ, ◌<◌, ◌⊎◌, List, [], ◌∷◌, length, ◌↔◌, Bool, true, false, Option, Some, None, is_some, unwrap_or, refl, Contains}
 use Rattle.std.specs.Ordering.{nat_cmp}
 use Rattle.std.specs.FinSet as set
 use Rattle.std.proofs.Common.{sym, ◌∙◌, ap, subst, arith, inl, inr}
@@ -9,12 +9,12 @@ use Rattle.apsp_model.specs.Paths.{KeptPath}
 use Rattle.apsp_model.proofs.Members.{in_cons, in_nil, head_in, tail_in}
 use Rattle.path_arena.specs.Arena.{Arena, Path, path_at, vertex_of, IsLive, no_path, path_of, list_of, single, joined_path, CanJoin, without_path, with_path}
 use Rattle.path_arena.proofs.Keys.{get_put, get_put_other, get_gone, get_gone_other}
-use Rattle.path_arena.proofs.Paths.{live_from, live_apart, path_of_at, Meeting, meeting}
+use Rattle.path_arena.proofs.Paths.{live_from, live_apart, path_of_at, live_path, Meeting, meeting}
 use Rattle.extension_lists.specs.Known.{Known}
 use Rattle.path_book.specs.Book.{Book, IsMarked, kept_path, kept_paths, with_kept, with_mark, IsForgotten, IsNewList, IsOpeningBook, IsBook}
-use Rattle.path_book.specs.Through.{AreForgotten, without_paths, without_marks}
+use Rattle.path_book.specs.Through.{AreForgotten}
 use Rattle.path_book.proofs.Kept.{KeptAt, in_kept, to_kept, live_is_kept, kept_at}
-use Rattle.path_book.proofs.Sets.{marked_put, marked_put_other, marked_gone_other}
+use Rattle.path_book.proofs.Sets.{marked_put, marked_put_other, marked_gone, marked_gone_other}
 
 -- which ids are live after one is forgotten
 pub live_is_left : (b new : Book) (id : ℕ) → IsForgotten b new id → (q : ℕ) → IsLive new.arena q ↔ (IsLive b.arena q × (q ≢ id))
@@ -118,51 +118,86 @@ module _ (b : Book) (id : ℕ) (was : IsBook b) (live : IsLive b.arena id) where
 
 -- ---- what stays where several are forgotten
 
-same_path : (a : Arena) (ids : List ℕ) (q : ℕ) → (Contains ids q → ⊥) → path_at (without_paths a ids) q ≡ path_at a q
-same_path a [] q other = refl
-same_path a (id ∷ ids) q other =
-    get_gone_other (without_paths a ids).paths id q (λ same. other (head_in q id ids (sym same)))
-    ∙ same_path a ids q (λ c. other (tail_in q id ids c))
+pub none_forgotten : (b : Book) → AreForgotten b b []
+none_forgotten b = record {
+  vertices = refl;
+  singles = refl;
+  paths = λ q p. (λ h. (h, in_nil q), λ h. h.0);
+  marked = λ q. (λ h. (h, in_nil q), λ h. h.0);
+}
 
-same_mark : (marked : set.FinSet nat_cmp) (ids : List ℕ) (q : ℕ) → (Contains ids q → ⊥) → set.contains (without_marks marked ids) q ≡ set.contains marked q
-same_mark marked [] q other = refl
-same_mark marked (id ∷ ids) q other =
-    marked_gone_other (without_marks marked ids) id q (λ same. other (head_in q id ids (sym same)))
-    ∙ same_mark marked ids q (λ c. other (tail_in q id ids c))
+-- one path more
+pub forgotten_more : (b now new : Book) (ids : List ℕ) (id : ℕ) → AreForgotten b now ids → new.arena ≡ without_path now.arena id → new.marked ≡ set.remove now.marked id → AreForgotten b new (id ∷ ids)
+forgotten_more b now new ids id f arena marked = record {
+  vertices = ap (λ a. a.vertices) arena ∙ f.vertices;
+  singles = ap (λ a. a.singles) arena ∙ f.singles;
+  paths = λ q p. (
+      λ h. (
+          let apart : q ≢ id = λ same. (let no : None ≡ Some p = sym gone ∙ ap (path_at new.arena) (sym same) ∙ h in absurd (false≢true (ap is_some no))) in
+          let was = (f.paths q p).0 (sym (path_left q apart) ∙ h) in
+          (was.0, not_in q apart was.1)
+          ),
+      λ h. path_left q (apart_from q h.1) ∙ (f.paths q p).1 (h.0, λ c. h.1 (tail_in q id ids c)),
+  );
+  marked = λ q. (
+      λ h. (
+          let apart : q ≢ id = λ same. absurd (false≢true (sym unmarked ∙ ap (set.contains new.marked) (sym same) ∙ h)) in
+          let was = (f.marked q).0 (sym (mark_left q apart) ∙ h) in
+          (was.0, not_in q apart was.1)
+          ),
+      λ h. mark_left q (apart_from q h.1) ∙ (f.marked q).1 (h.0, λ c. h.1 (tail_in q id ids c)),
+  );
+}
+  where
+    gone : path_at new.arena id ≡ None
+    gone = ap (λ a. path_at a id) arena ∙ get_gone now.arena.paths id
 
-gone_path : (a : Arena) (ids : List ℕ) (q : ℕ) → Contains ids q → path_at (without_paths a ids) q ≡ None
-gone_path a [] q c = absurd (in_nil q c)
-gone_path a (id ∷ ids) q c = elim (cases_eq q id) [
-  | inl same ↦ ap (path_at (without_path (without_paths a ids) id)) same ∙ get_gone (without_paths a ids).paths id
-  | inr apart ↦ get_gone_other (without_paths a ids).paths id q apart ∙ gone_path a ids q (elim (in_cons q id ids c) [ inl same ↦ absurd (apart (sym same)) | inr more ↦ more ])
-]
+    path_left : (q : ℕ) → q ≢ id → path_at new.arena q ≡ path_at now.arena q
+    path_left q apart = ap (λ a. path_at a q) arena ∙ get_gone_other now.arena.paths id q apart
 
-same_vertices : (a : Arena) (ids : List ℕ) → (without_paths a ids).vertices ≡ a.vertices
-same_vertices a [] = refl
-same_vertices a (id ∷ ids) = same_vertices a ids
+    unmarked : set.contains new.marked id ≡ false
+    unmarked = ap (λ s. set.contains s id) marked ∙ marked_gone now.marked id
+
+    mark_left : (q : ℕ) → q ≢ id → set.contains new.marked q ≡ set.contains now.marked q
+    mark_left q apart = ap (λ s. set.contains s q) marked ∙ marked_gone_other now.marked id q apart
+
+    apart_from : (q : ℕ) → (Contains (id ∷ ids) q → ⊥) → q ≢ id
+    apart_from q other same = other (head_in q id ids (sym same))
+
+    not_in : (q : ℕ) → q ≢ id → (Contains ids q → ⊥) → Contains (id ∷ ids) q → ⊥
+    not_in q apart other c = elim (in_cons q id ids c) [ inl same ↦ apart (sym same) | inr more ↦ other more ]
+
+same_option : (o n : Option Path) → ((p : Path) → (n ≡ Some p) ↔ (o ≡ Some p)) → n ≡ o
+same_option None None h = refl
+same_option None (Some p) h = sym ((h p).0 refl)
+same_option (Some p) n h = (h p).1 refl
+
+same_truth : (a b : Bool) → ((a ≡ true) ↔ (b ≡ true)) → a ≡ b
+same_truth true b h = sym (h.0 refl)
+same_truth false true h = h.1 refl
+same_truth false false h = refl
 
 module _ (b new : Book) (ids : List ℕ) (f : AreForgotten b new ids) where
-  pub vertices_forgotten : new.arena.vertices ≡ b.arena.vertices
-  vertices_forgotten = ap (λ a. a.vertices) f.arena ∙ same_vertices b.arena ids
+  same_path : (id : ℕ) → (Contains ids id → ⊥) → path_at new.arena id ≡ path_at b.arena id
+  same_path id other = same_option (path_at b.arena id) (path_at new.arena id) (λ p. (λ h. ((f.paths id p).0 h).0, λ h. (f.paths id p).1 (h, other)))
 
   same_kept : (id : ℕ) → (Contains ids id → ⊥) → kept_path new id (path_of new.arena id) ≡ kept_path b id (path_of b.arena id)
   same_kept id other =
-      let of : path_of new.arena id ≡ path_of b.arena id = ap (λ o. unwrap_or o no_path) (ap (λ a. path_at a id) f.arena ∙ same_path b.arena ids id other) in
-      let mark : set.contains new.marked id ≡ set.contains b.marked id = ap (λ s. set.contains s id) f.marked ∙ same_mark b.marked ids id other in
+      let of : path_of new.arena id ≡ path_of b.arena id = ap (λ o. unwrap_or o no_path) (same_path id other) in
+      let mark : set.contains new.marked id ≡ set.contains b.marked id = same_truth (set.contains new.marked id) (set.contains b.marked id) (λ h. ((f.marked id).0 h).0, λ h. (f.marked id).1 (h, other)) in
       (λ i. record { list = (of i).list; weight = (of i).weight; historical = mark i; birth = (of i).birth })
 
   -- what is kept was kept, and is none of them
   pub kept_before : (k : KeptPath) → Contains (kept_paths new) k → (at : KeptAt b k) × (Contains ids at.id → ⊥)
   kept_before k c =
       let at : KeptAt new k = kept_at new k c in
-      let other : Contains ids at.id → ⊥ = λ c. false≢true (sym (ap is_some (ap (λ a. path_at a at.id) f.arena ∙ gone_path b.arena ids at.id c)) ∙ at.live) in
-      let is : kept_path b at.id (path_of b.arena at.id) ≡ k = sym (same_kept at.id other) ∙ at.is in
-      (record { id = at.id; live = sym (ap is_some (ap (λ a. path_at a at.id) f.arena ∙ same_path b.arena ids at.id other)) ∙ at.live; is = is; list = ap (λ q. q.list) is }, other)
+      let p = live_path new.arena at.id at.live in
+      let was = (f.paths at.id p.0).0 p.1 in
+      let is : kept_path b at.id (path_of b.arena at.id) ≡ k = sym (same_kept at.id was.1) ∙ at.is in
+      (record { id = at.id; live = ap is_some was.0; is = is; list = ap (λ q. q.list) is }, was.1)
 
   pub kept_still : (id : ℕ) → IsLive b.arena id → (Contains ids id → ⊥) → Contains (kept_paths new) (kept_path b id (path_of b.arena id))
-  kept_still id live other =
-      subst (Contains (kept_paths new)) (same_kept id other)
-      (live_is_kept new id (ap is_some (ap (λ a. path_at a id) f.arena ∙ same_path b.arena ids id other) ∙ live))
+  kept_still id live other = subst (Contains (kept_paths new)) (same_kept id other) (live_is_kept new id (ap is_some (same_path id other) ∙ live))
 
 -- ---- for callers: conditions that hold behind a call
 

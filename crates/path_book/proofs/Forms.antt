@@ -11,7 +11,6 @@ use Rattle.path_arena.specs.Arena.{Path, Arena, no_path, path_at, path_of, list_
 use Rattle.path_arena.proofs.Keys.{get_put_other, get_gone, get_gone_other}
 use Rattle.path_arena.proofs.Paths.{live_apart, live_from_edge, added_is_part_of_none, Meeting, meeting}
 use Rattle.pair_heaps.specs.Heaps.{Heaps, held_at, spare_at, HeapsFit, HasEnds, IsHeld, IsReserved, TellsLeast}
-use Rattle.pair_heaps.specs.Rooms.{IsRoomOf}
 use Rattle.pair_heaps.specs.declared.heaps.Room.{Room}
 use Rattle.pair_heaps.proofs.Fits.{IsFreshIn, fresh_in, ends_in_rows}
 use Rattle.extension_lists.specs.Known.{Known, IsKnown}
@@ -209,13 +208,9 @@ join_ends a h l r birth x y lawful fits can from to = record {
     right_begins : first (list_of a r) ≡ Some front
     right_begins = (first_is (list_of a r) long_right).1
 
--- a room is that of its own pair
-pub own_room : (h : Heaps) (room : Room) (x y : ℕ) → IsRoomOf h room x y → IsRoomOf h room room.x room.y
-own_room h room x y is = subst (λ u. IsRoomOf h room u room.y) (sym is.x_is) (subst (λ v. IsRoomOf h room x v) (sym is.y_is) is)
-
 -- what is told at the ends that a room has is told at those that are these
-pub told_at : (h : Heaps) (room : Room) (x y : ℕ) (a : Arena) (told : Bool) (new old : Heaps) (id : ℕ) → IsRoomOf h room x y → TellsLeast a told new old id room.x room.y → TellsLeast a told new old id x y
-told_at h room x y a told new old id is tells = subst (λ u. TellsLeast a told new old id u y) is.x_is (subst (λ v. TellsLeast a told new old id room.x v) is.y_is tells)
+pub told_at : (room : Room) (x y : ℕ) (a : Arena) (told : Bool) (new old : Heaps) (id : ℕ) → room.x ≡ x → room.y ≡ y → TellsLeast a told new old id room.x room.y → TellsLeast a told new old id x y
+told_at room x y a told new old id from to tells = subst (λ u. TellsLeast a told new old id u y) from (subst (λ v. TellsLeast a told new old id room.x v) to tells)
 
 -- the ends of a path that is new in the arena
 pub new_ends : (b : Book) (id : ℕ) (p : Path) (now : Arena) (x y : ℕ) → IsBook b → IsNew b id p → now ≡ with_path b.arena id p → first p.list ≡ Some x → last p.list ≡ Some y → HasEnds now id x y

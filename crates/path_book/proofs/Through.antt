@@ -16,10 +16,11 @@ use Rattle.extension_lists.specs.Known.{Sides, Known, no_sides, IsKnown, sides_a
 use Rattle.path_book.specs.Book.{Book, IsMarked, HasExtensions}
 use Rattle.path_book.specs.Dirty.{Dirty, IsNoted}
 use Rattle.path_book.specs.Layout.{marked_in, mark_at, IsClean, IsLaidOut}
-use Rattle.path_book.specs.Through.{IsVictims, without_paths, without_marks, AreForgotten}
+use Rattle.path_book.specs.Through.{IsVictims, AreForgotten}
 use Rattle.path_book.proofs.Admitting.{ends_of}
 use Rattle.path_book.proofs.Places.{contains-marked_in}
 use Rattle.path_book.proofs.Formed.{ends_alike}
+use Rattle.path_book.proofs.Changes.{none_forgotten, forgotten_more}
 use Rattle.path_book.proofs.Clean.{clean_forgotten}
 use Rattle.path_book.proofs.Ends.{Ends, ends, edge_of_right}
 use Rattle.path_book.proofs.Forgotten.{IsStoredButLists, stored_but_lists, stored_with_lists, LeftOverButLists, left_but_lists, some_of_kind}
@@ -30,8 +31,7 @@ use Rattle.path_book.proofs.Leaving.{IsListedAt, AreListed, fewer_listed}
 pub record IsForgetting (old : Book) (v : ℕ) (ids rest : List ℕ) (now : Book) (held : Heaps) (dirty : Dirty) (historical pending : ℕ) : Type 0 where
   pub gone : List ℕ
   pub split : ids ≡ rest ++ gone
-  pub arena : now.arena ≡ without_paths old.arena gone
-  pub marked : now.marked ≡ without_marks old.marked gone
+  pub forgotten : AreForgotten old now gone
   pub inside : v < now.arena.vertices
   pub stored : IsStoredButLists now held historical pending
   pub clean : IsClean now dirty
@@ -42,8 +42,7 @@ pub forgetting_none : (b seen : Book) (v : ℕ) (ids : List ℕ) (held : Heaps) 
 forgetting_none b seen v ids held dirty historical pending laid is inside victims = record {
   gone = [];
   split = sym (append_nil ids);
-  arena = refl;
-  marked = refl;
+  forgotten = none_forgotten b;
   inside = subst (λ (c : Book). v < c.arena.vertices) (sym is) inside;
   stored = stored_but_lists b held historical pending laid.stored;
   clean = laid.dirty;
@@ -117,8 +116,7 @@ module _ (old : Book) (v : ℕ) (ids rest fewer : List ℕ) (b : Book) (held : H
     forgetting_more left right first_step second_step third_step note = record {
       gone = id ∷ f.gone;
       split = f.split ∙ ap (λ xs. xs ++ f.gone) is ∙ append_assoc fewer (id ∷ []) f.gone;
-      arena = taken ∙ ap (λ a. without_path a id) f.arena;
-      marked = left_over.marked_is ∙ ap (λ m. set.remove m id) f.marked;
+      forgotten = forgotten_more old b then_book f.gone id f.forgotten taken left_over.marked_is;
       inside = subst (λ n. v < n) (sym (ap (λ (a : Arena). a.vertices) taken)) f.inside;
       stored = left_over.stored;
       clean = clean_forgotten b then_book id dirty noted from to taken left_over.marked_is f.clean note (begins, finishes);
@@ -230,7 +228,7 @@ module _ (old : Book) (v : ℕ) (ids rest : List ℕ) (b : Book) (held : Heaps) 
     pub all_forgotten : (seen : Book) → old ≡ seen → AreForgotten seen (record { arena = b.arena; marked = b.marked; lists = lists }) ids
     all_forgotten seen same =
         let all : f.gone ≡ ids = sym (f.split ∙ ap (λ xs. xs ++ f.gone) none) in
-        record {
-          arena = f.arena ∙ ap (without_paths old.arena) all ∙ ap (λ (c : Book). without_paths c.arena ids) same;
-          marked = f.marked ∙ ap (without_marks old.marked) all ∙ ap (λ (c : Book). without_marks c.marked ids) same;
-        }
+        let now : Book = record { arena = b.arena; marked = b.marked; lists = lists } in
+        subst (λ (c : Book). AreForgotten c now ids) same
+        (subst (AreForgotten old now) all
+        (record { vertices = f.forgotten.vertices; singles = f.forgotten.singles; paths = f.forgotten.paths; marked = f.forgotten.marked }))

@@ -1,10 +1,8 @@
 -- The kept paths through a vertex, and a book without them.
-use Rattle.std.specs.Prelude.{◌≡◌, ℕ, ◌≤◌, ◌↔◌, ⊤, List, [], ◌∷◌, Contains}
-use Rattle.std.specs.Ordering.{nat_cmp}
-use Rattle.std.specs.FinSet as set
+use Rattle.std.specs.Prelude.{◌≡◌, ℕ, ◌≤◌, ◌↔◌, ⊤, List, [], ◌∷◌, Some, Contains}
 use Rattle.apsp_model.specs.Walk.{IsOnceEach, hops_of}
-use Rattle.path_arena.specs.Arena.{Arena, list_of, HasAnEdge, without_path}
-use Rattle.path_book.specs.Book.{Book}
+use Rattle.path_arena.specs.Arena.{Path, path_at, list_of, HasAnEdge}
+use Rattle.path_book.specs.Book.{Book, IsMarked}
 
 -- a kept path with an edge through v
 abbrev pub IsThrough : Book → ℕ → ℕ → Type 0
@@ -24,16 +22,10 @@ pub record IsVictims (b : Book) (v : ℕ) (ids : List ℕ) : Type 0 where
   pub once : IsOnceEach ids
   pub rising : InRisingHops b ids
 
--- without the paths, and without the marks, of these ids
-abbrev pub without_paths : Arena → List ℕ → Arena
-without_paths a [] = a
-without_paths a (id ∷ ids) = without_path (without_paths a ids) id
-
-abbrev pub without_marks : set.FinSet nat_cmp → List ℕ → set.FinSet nat_cmp
-without_marks marked [] = marked
-without_marks marked (id ∷ ids) = set.remove (without_marks marked ids) id
-
--- these paths are kept no more, and all others stay
+-- exactly the other paths are kept, each as it was, and those of them are historical that were
 pub record AreForgotten (old new : Book) (ids : List ℕ) : Type 0 where
-  pub arena : new.arena ≡ without_paths old.arena ids
-  pub marked : new.marked ≡ without_marks old.marked ids
+  pub vertices : new.arena.vertices ≡ old.arena.vertices
+  pub singles : new.arena.singles ≡ old.arena.singles
+  pub paths : (id : ℕ) (p : Path) → (path_at new.arena id ≡ Some p)
+      ↔ ((path_at old.arena id ≡ Some p) × (Contains ids id → ⊥))
+  pub marked : (id : ℕ) → IsMarked new id ↔ (IsMarked old id × (Contains ids id → ⊥))

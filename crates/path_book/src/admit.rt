@@ -38,7 +38,7 @@ pub(crate) fn admit(
     requires edge { HasAnEdge arena.old id }
     requires free { IsPartOfNone arena.old id }
     requires room { HasRoomForPath arena.old heaps.old id }
-    requires here { IsRoomOf heaps.old room room.x room.y }
+    requires here { IsRoomOf heaps.old room }
     requires ends { HasEnds arena.old id room.x room.y }
     requires new { IsHeld heaps.old id → ⊥ }
     requires lists { CanEnter arena.old lists.old id }
@@ -73,7 +73,7 @@ pub(crate) fn admit_known(
     requires new { IsHeld heaps.old path.id → ⊥ }
     requires lists { CanEnter arena.old lists.old path.id }
     requires known { IsKnownPath arena.old path }
-    requires here { IsRoomOf heaps.old path.room path.room.x path.room.y }
+    requires here { IsRoomOf heaps.old path.room }
     ensures kept { OnOk result (arena.new ≡ arena.old) }
     ensures admitted { OnOk result (IsAdmitted arena.new heaps.old heaps.new lists.old lists.new path.id) }
     ensures least { IfOk result

@@ -2,7 +2,6 @@ use Rattle.std.proofs.Common.{◌≡◌, ◌==◌, ◌<◌, ◌∙◌, ℕ, List
 use Rattle.std.proofs.lemmas.Bool.{eqb-true, false≢true}
 use Rattle.path_book.specs.Book.{kept_paths}
 use Rattle.path_book.specs.Through.{AreForgotten}
-use Rattle.path_book.proofs.Changes.{vertices_forgotten}
 use Rattle.fixup_math.proofs.Cleanups.{cleanup_leaves_ready}
 use Rattle.cleanup_tasks.proofs.Cleaning.{all_cleaned, none_cleaned, vertex_inside}
 use Rattle.cleanup_tasks.proofs.forget.forget_all.Goals as goal
@@ -39,4 +38,4 @@ returns-clause-ready c = λ before graph agree local. cleanup_leaves_ready c.arg
     (all_cleaned c.args.book.now c.forget_through.new.self c.args.list.now.vertex c.args.list.now.ids c.show_lawful.ensures c.requires (forgotten c))
 
 pub returns-clause-vertices : goal.returns-clause-vertices
-returns-clause-vertices c = vertices_forgotten c.args.book.now c.forget_through.new.self c.args.list.now.ids (forgotten c)
+returns-clause-vertices c = (forgotten c).vertices

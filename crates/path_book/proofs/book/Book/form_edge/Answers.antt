@@ -3,7 +3,7 @@ use Rattle.path_arena.specs.Arena.{Arena, edge_path, IsArena}
 use Rattle.path_book.specs.Book.{Book, with_kept, IsNewList, IsBook}
 use Rattle.path_book.specs.Layout.{view_of, IsStored, IsClean}
 use Rattle.path_book.proofs.Formed.{IsNew}
-use Rattle.path_book.proofs.Forms.{stored_reserved, AsksMet, asks_met, IsFormed, is_formed, is_taken_back, on_err, new_edge, new_ends, own_room}
+use Rattle.path_book.proofs.Forms.{stored_reserved, AsksMet, asks_met, IsFormed, is_formed, is_taken_back, on_err, new_edge, new_ends}
 use Rattle.path_book.proofs.Clean.{clean_formed}
 use Rattle.path_book.proofs.book.Book.form_edge.Goals as goal
 
@@ -32,14 +32,13 @@ asks c = asks_met (view_of c.self.inside) c.in_ok-id.id _ c.self.inside.heaps c.
 pub admit-requires : goal.admit-requires
 admit-requires c =
     let a = asks c in
-    let room = c.in_ok-room.ensures.room in
     record {
       lawful = a.lawful;
       edge = a.edge;
       free = a.free;
       room = a.room;
-      here = own_room c.reserve_room.new.self c.in_ok-room.room c.args.u c.args.v room;
-      ends = new_ends (view_of c.self.inside) c.in_ok-id.id _ c.edge.new.self c.in_ok-room.room.x c.in_ok-room.room.y c.self.invariant.stored.book (new c) c.in_ok-id.ensures.added (ap Some (sym room.x_is)) (ap Some (sym room.y_is));
+      here = c.in_ok-room.ensures.room;
+      ends = new_ends (view_of c.self.inside) c.in_ok-id.id _ c.edge.new.self c.in_ok-room.room.x c.in_ok-room.room.y c.self.invariant.stored.book (new c) c.in_ok-id.ensures.added (ap Some (sym c.in_ok-room.ensures.from)) (ap Some (sym c.in_ok-room.ensures.to));
       new = a.new;
       lists = a.lists;
     }

@@ -5,7 +5,7 @@ use Rattle.path_book.specs.Book.{Book, IsMarked, with_kept, IsNewList, IsBook}
 use Rattle.path_book.specs.Layout.{view_of, IsStored, IsClean}
 use Rattle.path_book.specs.Dirty.{Dirty}
 use Rattle.path_book.proofs.Formed.{IsNew}
-use Rattle.path_book.proofs.Forms.{join_known, stored_reserved, AsksMet, asks_met, IsFormed, is_formed, is_taken_back, on_err, new_join, join_ends, own_room, told_at}
+use Rattle.path_book.proofs.Forms.{join_known, stored_reserved, AsksMet, asks_met, IsFormed, is_formed, is_taken_back, on_err, new_join, join_ends, told_at}
 use Rattle.path_book.proofs.Readers.{tells_kept}
 use Rattle.path_book.proofs.Clean.{clean_all}
 use Rattle.path_book.proofs.book.Book.form_join_between.Goals as goal
@@ -43,8 +43,8 @@ admit_known-requires c =
       room = a.room;
       new = a.new;
       lists = a.lists;
-      known = join_known (view_of c.self.inside) c.in_ok-id.id c.args.l c.args.r c.args.birth c.in_ok-room.room c.join.new.self c.self.invariant.stored.book new c.in_ok-id.ensures.added (ends.begins ∙ ap Some (sym c.in_ok-room.ensures.room.x_is)) (ends.finishes ∙ ap Some (sym c.in_ok-room.ensures.room.y_is));
-      here = own_room c.reserve_room.new.self c.in_ok-room.room c.args.from c.args.to c.in_ok-room.ensures.room;
+      known = join_known (view_of c.self.inside) c.in_ok-id.id c.args.l c.args.r c.args.birth c.in_ok-room.room c.join.new.self c.self.invariant.stored.book new c.in_ok-id.ensures.added (ends.begins ∙ ap Some (sym c.in_ok-room.ensures.from)) (ends.finishes ∙ ap Some (sym c.in_ok-room.ensures.to));
+      here = c.in_ok-room.ensures.room;
     }
 
 -- without memory for it the book is as before
@@ -110,4 +110,4 @@ returns-clause-least c =
     let ends = join_ends c.self.inside.arena c.self.inside.heaps c.args.l c.args.r c.args.birth _ _ c.self.invariant.stored.book.arena c.self.invariant.stored.heaps.fits (subst (λ (b : Book). CanJoin b.arena c.args.l c.args.r) (sym c.self.view_is) c.requires.join) (subst (λ (b : Book). first (list_of b.arena c.args.l) ≡ Some c.args.from) (sym c.self.view_is) c.requires.from) (subst (λ (b : Book). last (list_of b.arena c.args.r) ≡ Some c.args.to) (sym c.self.view_is) c.requires.to) in
     let a : AsksMet (view_of c.self.inside) c.join.new.self c.reserve_room.new.self c.in_ok-id.id =
     asks_met (view_of c.self.inside) c.in_ok-id.id _ c.self.inside.heaps c.reserve_room.new.self c.args.from c.args.to _ _ c.join.new.self c.self.invariant.stored new c.in_ok-id.ensures.added (c.reserve_room.ensures.fits c.self.inside.arena).0 c.in_ok-room.ensures.ok ends.begins ends.finishes in
-    tells_kept _ c.admit_known.new.heaps c.reserve_room.new.self _ _ c.args.from c.args.to c.in_ok-id.id c.in_ok-is_least.is_least (formed c).stored (told_at c.reserve_room.new.self c.in_ok-room.room c.args.from c.args.to _ c.in_ok-is_least.is_least c.admit_known.new.heaps c.reserve_room.new.self c.in_ok-id.id c.in_ok-room.ensures.room c.in_ok-is_least.ensures.least) a.new
+    tells_kept _ c.admit_known.new.heaps c.reserve_room.new.self _ _ c.args.from c.args.to c.in_ok-id.id c.in_ok-is_least.is_least (formed c).stored (told_at c.in_ok-room.room c.args.from c.args.to _ c.in_ok-is_least.is_least c.admit_known.new.heaps c.reserve_room.new.self c.in_ok-id.id c.in_ok-room.ensures.from c.in_ok-room.ensures.to c.in_ok-is_least.ensures.least) a.new
