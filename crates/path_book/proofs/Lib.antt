@@ -21,3 +21,4 @@ pub mod Heads
 pub mod Victims
 pub mod Leaving
 pub mod Through
+pub mod Stars
