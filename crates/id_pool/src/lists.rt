@@ -149,7 +149,6 @@ impl Lists {
         ensures only { IsChanged self.old self.new list }
         ensures none { list_at self.new list ≡ no_ids }
     {
-        let head = &mut self.heads[list];
-        head.clear(&mut self.blocks);
+        self.heads[list].clear(&mut self.blocks);
     }
 }
