@@ -28,8 +28,8 @@ put_cases Fact m k s j here other = elim (cases_eq j k) [
 known_put : (m : Known) (k : ℕ) (s : Sides) (q : ℕ) → IsKnown m k → IsKnown (map.insert m k s) q ↔ IsKnown m q
 known_put m k s q known = elim (cases_eq q k) [
   | inl same ↦ (
-      λ h. subst (IsKnown m) (sym same) known,
-      λ h. ap (λ j. is_some (map.get (map.insert m k s) j)) same ∙ ap is_some (get-insert_same m k s),
+    λ h. subst (IsKnown m) (sym same) known,
+    λ h. ap (λ j. is_some (map.get (map.insert m k s) j)) same ∙ ap is_some (get-insert_same m k s),
   )
   | inr apart ↦ (let still = ap is_some (get-insert_other m k s q apart) in (λ h. sym still ∙ h, λ h. still ∙ h))
 ]
@@ -67,13 +67,13 @@ pub filled_entered : (m new : Known) (n k id : ℕ) → id ≡ n → AreFilled m
 filled_entered m new n k id here f is = subst (λ m. AreFilled m (n + 1) k) (sym (is ∙ ap (λ i. map.insert m i no_sides) here)) (record {
   known = λ q. elim (cases_eq q n) [
     | inl same ↦ (
-        λ h. omega (arith, same),
-        λ h. ap (λ j. is_some (map.get (map.insert m n no_sides) j)) same ∙ ap is_some (get-insert_same m n no_sides),
+      λ h. omega (arith, same),
+      λ h. ap (λ j. is_some (map.get (map.insert m n no_sides) j)) same ∙ ap is_some (get-insert_same m n no_sides),
     )
     | inr apart ↦ (
         let still = ap is_some (get-insert_other m n no_sides q apart) in
         (λ h. let before : q < n = (f.known q).0 (sym still ∙ h) in omega arith, λ h. still ∙ (f.known q).1 (omega (arith, apart)))
-    )
+        )
   ];
   left = λ j q. put_cases (λ s. Contains s.left q → q < k) m n no_sides j (λ c. absurd (in_nil q c)) (f.left j q);
   right = λ j q. put_cases (λ s. Contains s.right q → q < k) m n no_sides j (λ c. absurd (in_nil q c)) (f.right j q);
@@ -107,10 +107,10 @@ module _ (m new : Known) (n k l r : ℕ) (f : AreFilled m n k) (known_l : IsKnow
   pub filled_added : AreFilled new n (k + 1)
   filled_added = subst (λ m. AreFilled m n (k + 1)) (sym is) (record {
     known = λ q. (
-      let one = known_put m l _ q known_l in
-      let two = known_put first_change r _ q ((known_put m l _ r known_l).1 known_r) in
-      (λ h. (f.known q).0 (one.0 (two.0 h)), λ h. two.1 (one.1 ((f.known q).1 h)))
-    );
+        let one = known_put m l _ q known_l in
+        let two = known_put first_change r _ q ((known_put m l _ r known_l).1 known_r) in
+        (λ h. (f.known q).0 (one.0 (two.0 h)), λ h. two.1 (one.1 ((f.known q).1 h)))
+        );
     left = λ j q. put_cases (λ s. Contains s.left q → q < k + 1) first_change r _ j (pushed (sides_at first_change r).left q (first_left r q)) (λ c. more q (first_left j q c));
     right = λ j q. put_cases (λ s. Contains s.right q → q < k + 1) first_change r _ j (first_right r q) (first_right j q);
     left_star = λ j q. put_cases (λ s. Contains s.left_star q → q < k + 1) first_change r _ j (λ c. more q (first_left_star r q c)) (λ c. more q (first_left_star j q c));
@@ -162,7 +162,9 @@ module _ (m : Known) (k id l r : ℕ) (f : AreFilled m (k + 1) k) (is_id : id �
 
   pub can_add : IsKnown m id × IsKnown m l × IsKnown m r × (Contains (sides_at m l).right id → ⊥) × (Contains (sides_at m r).left id → ⊥)
   can_add = (
-    known_id, known_l, known_r,
+    known_id,
+    known_l,
+    known_r,
     λ c. (let low : id < k = f.right l id c in omega (arith, is_id)),
     λ c. (let low : id < k = f.left r id c in omega (arith, is_id)),
   )

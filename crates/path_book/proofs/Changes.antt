@@ -132,20 +132,20 @@ forgotten_more b now new ids id f arena marked = record {
   vertices = ap (λ a. a.vertices) arena ∙ f.vertices;
   singles = ap (λ a. a.singles) arena ∙ f.singles;
   paths = λ q p. (
-      λ h. (
-          let apart : q ≢ id = λ same. (let no : None ≡ Some p = sym gone ∙ ap (path_at new.arena) (sym same) ∙ h in absurd (false≢true (ap is_some no))) in
-          let was = (f.paths q p).0 (sym (path_left q apart) ∙ h) in
-          (was.0, not_in q apart was.1)
-          ),
-      λ h. path_left q (apart_from q h.1) ∙ (f.paths q p).1 (h.0, λ c. h.1 (tail_in q id ids c)),
+    λ h. (
+        let apart : q ≢ id = λ same. (let no : None ≡ Some p = sym gone ∙ ap (path_at new.arena) (sym same) ∙ h in absurd (false≢true (ap is_some no))) in
+        let was = (f.paths q p).0 (sym (path_left q apart) ∙ h) in
+        (was.0, not_in q apart was.1)
+        ),
+    λ h. path_left q (apart_from q h.1) ∙ (f.paths q p).1 (h.0, λ c. h.1 (tail_in q id ids c)),
   );
   marked = λ q. (
-      λ h. (
-          let apart : q ≢ id = λ same. absurd (false≢true (sym unmarked ∙ ap (set.contains new.marked) (sym same) ∙ h)) in
-          let was = (f.marked q).0 (sym (mark_left q apart) ∙ h) in
-          (was.0, not_in q apart was.1)
-          ),
-      λ h. mark_left q (apart_from q h.1) ∙ (f.marked q).1 (h.0, λ c. h.1 (tail_in q id ids c)),
+    λ h. (
+        let apart : q ≢ id = λ same. absurd (false≢true (sym unmarked ∙ ap (set.contains new.marked) (sym same) ∙ h)) in
+        let was = (f.marked q).0 (sym (mark_left q apart) ∙ h) in
+        (was.0, not_in q apart was.1)
+        ),
+    λ h. mark_left q (apart_from q h.1) ∙ (f.marked q).1 (h.0, λ c. h.1 (tail_in q id ids c)),
   );
 }
   where

@@ -1,7 +1,7 @@
-use Rattle.std.proofs.Common.{◌≡◌, ◌≤◌, ◌∙◌, ap, sym, arith}
+use Rattle.std.proofs.Common.{◌∙◌, ap, arith}
 use Rattle.std.specs.Prelude.{is_some}
 use Rattle.std.specs.FinMap as map
-use Rattle.extension_lists.specs.Known.{Known, no_sides, IsKnown}
+use Rattle.extension_lists.specs.Known.{Known, no_sides}
 use Rattle.extension_lists.proofs.Places.{get-remove_same}
 use Rattle.extension_lists.proofs.Filled.{put_known, put_itself}
 use Rattle.extension_lists.proofs.tests.cleared_and_forgotten_ids_have_no_lists.Goals as goal

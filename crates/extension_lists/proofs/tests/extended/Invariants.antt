@@ -1,4 +1,3 @@
-use Rattle.std.proofs.Common.{◌≤◌}
 use Rattle.extension_lists.proofs.Filled.{AreFilled}
 use Rattle.extension_lists.proofs.tests.extended.Given as goal
 

@@ -1,4 +1,4 @@
-use Rattle.std.proofs.Common.{◌≡◌, ◌<◌, ◌∷◌, [], List, ℕ, get_or, refl, ◌∙◌, ap, inl, inr, arith}
+use Rattle.std.proofs.Common.{◌∷◌, [], List, ℕ, get_or, refl, ◌∙◌, ap, inl, inr, arith}
 use Rattle.apsp_model.proofs.Members.{in_nil, in_cons, head_in, tail_in}
 use Rattle.path_arena.proofs.Paths.{live_added}
 use Rattle.path_book.specs.Book.{Book, IsNewList}
