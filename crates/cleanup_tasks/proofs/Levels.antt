@@ -13,8 +13,8 @@ use Rattle.extension_lists.specs.Known.{sides_at}
 use Rattle.path_book.specs.Book.{Book, IsBook}
 use Rattle.path_book.proofs.Tables.{in_entries, to_map}
 use Rattle.path_book.specs.Through.{IsThrough, hops_at, InRisingHops, IsVictims}
-use Rattle.cleanup_tasks.specs.declared.search.Side.{Side}
-use Rattle.cleanup_tasks.specs.declared.search.Side.TheVariants.{Left, Right}
+use Rattle.cleanup_tasks.specs.declared.search.ExtensionSide.{ExtensionSide}
+use Rattle.cleanup_tasks.specs.declared.search.ExtensionSide.TheVariants.{Left, Right}
 use Rattle.cleanup_tasks.specs.Walk.{starts_at, side_of, extensions_of, AreExtensions}
 use Rattle.cleanup_tasks.proofs.Parents.{PassesThrough, IsExtensionFrom, longer_exact, ChildFacts, child_facts, ParentOf, parent_of, one_parent, ends_apart, single_or_through, single_passes, some_hops, single_starts}
 
@@ -76,14 +76,14 @@ rising_alike b (x ∷ xs) h alike = (
 
 -- ---- the paths that go on at a side of those of a list
 
-pub extensions_append : (side : Side) (b : Book) (xs ys : List ℕ) → extensions_of side b (xs ++ ys) ≡ extensions_of side b xs ++ extensions_of side b ys
+pub extensions_append : (side : ExtensionSide) (b : Book) (xs ys : List ℕ) → extensions_of side b (xs ++ ys) ≡ extensions_of side b xs ++ extensions_of side b ys
 extensions_append side b [] ys = refl
 extensions_append side b (x ∷ xs) ys =
     let here : List ℕ = side_of side (sides_at b.lists x) in
     ap (λ l. here ++ l) (extensions_append side b xs ys) ∙ sym (append_assoc here (extensions_of side b xs) (extensions_of side b ys))
 
 -- .. and those of one path more
-pub extensions_more : (side : Side) (b : Book) (xs : List ℕ) (i x : ℕ) → i < length xs → x ≡ get_or xs i x → extensions_of side b (take i xs) ++ side_of side (sides_at b.lists x) ≡ extensions_of side b (take (i + 1) xs)
+pub extensions_more : (side : ExtensionSide) (b : Book) (xs : List ℕ) (i x : ℕ) → i < length xs → x ≡ get_or xs i x → extensions_of side b (take i xs) ++ side_of side (sides_at b.lists x) ≡ extensions_of side b (take (i + 1) xs)
 extensions_more side b xs i x inside at =
     sym (ap (extensions_of side b) (take_push xs i x inside at) ∙ extensions_append side b (take i xs) (x ∷ []) ∙ ap (λ l. extensions_of side b (take i xs) ++ l) (append-nil (side_of side (sides_at b.lists x))))
 
@@ -94,14 +94,14 @@ each_more P xs i x inside at old new y c = elim (Contains-append_cases (take i x
   | inr here ↦ elim (in_cons y x [] here) [ inl same ↦ subst P same new | inr none ↦ absurd (in_nil y none) ]
 ]
 
-in_extensions : (side : Side) (b : Book) (xs : List ℕ) (p q : ℕ) → Contains xs p → Contains (side_of side (sides_at b.lists p)) q → Contains (extensions_of side b xs) q
+in_extensions : (side : ExtensionSide) (b : Book) (xs : List ℕ) (p q : ℕ) → Contains xs p → Contains (side_of side (sides_at b.lists p)) q → Contains (extensions_of side b xs) q
 in_extensions side b [] p q at c = absurd (in_nil p at)
 in_extensions side b (x ∷ xs) p q at c = elim (in_cons p x xs at) [
   | inl same ↦ Contains-append_left (side_of side (sides_at b.lists x)) (extensions_of side b xs) q (subst (λ k. Contains (side_of side (sides_at b.lists k)) q) (sym same) c)
   | inr more ↦ Contains-append_right (side_of side (sides_at b.lists x)) (extensions_of side b xs) q (in_extensions side b xs p q more c)
 ]
 
-of_extensions : (side : Side) (b : Book) (xs : List ℕ) (q : ℕ) → Contains (extensions_of side b xs) q → (p : ℕ) × Contains xs p × Contains (side_of side (sides_at b.lists p)) q
+of_extensions : (side : ExtensionSide) (b : Book) (xs : List ℕ) (q : ℕ) → Contains (extensions_of side b xs) q → (p : ℕ) × Contains xs p × Contains (side_of side (sides_at b.lists p)) q
 of_extensions side b [] q c = absurd (in_nil q c)
 of_extensions side b (x ∷ xs) q c = elim (Contains-append_cases (side_of side (sides_at b.lists x)) (extensions_of side b xs) q c) [
   | inl here ↦ (x, head_in x x xs refl, here)
@@ -109,7 +109,7 @@ of_extensions side b (x ∷ xs) q c = elim (Contains-append_cases (side_of side 
 ]
 
 -- where no path goes on at this side of two, each of those that go on stands once
-extensions_once : (side : Side) (b : Book) → ((q p r : ℕ) → Contains (side_of side (sides_at b.lists p)) q → Contains (side_of side (sides_at b.lists r)) q → p ≡ r) → (xs : List ℕ) → IsOnceEach xs → ((p : ℕ) → Contains xs p → IsOnceEach (side_of side (sides_at b.lists p))) → IsOnceEach (extensions_of side b xs)
+extensions_once : (side : ExtensionSide) (b : Book) → ((q p r : ℕ) → Contains (side_of side (sides_at b.lists p)) q → Contains (side_of side (sides_at b.lists r)) q → p ≡ r) → (xs : List ℕ) → IsOnceEach xs → ((p : ℕ) → Contains xs p → IsOnceEach (side_of side (sides_at b.lists p))) → IsOnceEach (extensions_of side b xs)
 extensions_once side b one [] once each = tt
 extensions_once side b one (x ∷ xs) once each =
     once_append (side_of side (sides_at b.lists x)) (extensions_of side b xs) (each x (head_in x x xs refl)) (extensions_once side b one xs once.1 (λ p c. each p (tail_in p x xs c)))

@@ -4,8 +4,8 @@ use Rattle.apsp_model.specs.Walk.{IsOnceEach}
 use Rattle.path_arena.specs.Arena.{list_of}
 use Rattle.extension_lists.specs.Known.{Sides, sides_at}
 use Rattle.path_book.specs.Book.{Book}
-use Rattle.cleanup_tasks.specs.declared.search.Side.{Side}
-use Rattle.cleanup_tasks.specs.declared.search.Side.TheVariants.{Left, Right}
+use Rattle.cleanup_tasks.specs.declared.search.ExtensionSide.{ExtensionSide}
+use Rattle.cleanup_tasks.specs.declared.search.ExtensionSide.TheVariants.{Left, Right}
 
 -- whether a list, and the path of an id, starts at v
 abbrev pub begins_with : List ℕ → ℕ → Bool
@@ -21,12 +21,12 @@ abbrev pub longer_of : Book → ℕ → ℕ → List ℕ
 longer_of b v id = (sides_at b.lists id).left ++ (if starts_at b v id then (sides_at b.lists id).right else [])
 
 -- what goes on at a side of a path
-abbrev pub side_of : Side → Sides → List ℕ
+abbrev pub side_of : ExtensionSide → Sides → List ℕ
 side_of Left sides = sides.left
 side_of Right sides = sides.right
 
 -- what goes on at a side of the paths of a list
-abbrev pub extensions_of : Side → Book → List ℕ → List ℕ
+abbrev pub extensions_of : ExtensionSide → Book → List ℕ → List ℕ
 extensions_of side b [] = []
 extensions_of side b (id ∷ ids) = side_of side (sides_at b.lists id) ++ extensions_of side b ids
 

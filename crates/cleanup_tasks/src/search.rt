@@ -53,7 +53,7 @@ pub fn victims<R: Threads + Sync, G: Gate>(
 
 /// Where a path goes on: in front of it, or behind it.
 #[derive(Clone, Copy)]
-enum Side {
+enum ExtensionSide {
     Left,
     Right,
 }
@@ -141,9 +141,9 @@ pub(crate) fn longer(
     book.show_lawful();
     next.starting.clear();
     next.passing.clear();
-    push_extensions(book, starting, Side::Right, &mut next.starting)?;
-    push_extensions(book, starting, Side::Left, &mut next.passing)?;
-    push_extensions(book, passing, Side::Left, &mut next.passing)
+    push_extensions(book, starting, ExtensionSide::Right, &mut next.starting)?;
+    push_extensions(book, starting, ExtensionSide::Left, &mut next.passing)?;
+    push_extensions(book, passing, ExtensionSide::Left, &mut next.passing)
 }
 
 /// Puts the paths that go on at a side of those of a list behind the ids.
@@ -151,7 +151,7 @@ pub(crate) fn longer(
 fn push_extensions(
     book: &Book,
     list: &[PathId],
-    side: Side,
+    side: ExtensionSide,
     ids: &mut Vec<PathId>,
 ) -> Result<(), Memory>
     requires live { (id : ℕ) → Contains list.now id → IsLive book.now.arena id }
@@ -167,14 +167,14 @@ fn push_extensions(
 
 /// The paths that go on at a side of a path.
 #[inline(always)]
-fn extensions(book: &Book, path: PathId, side: Side) -> &[PathId]
+fn extensions(book: &Book, path: PathId, side: ExtensionSide) -> &[PathId]
     requires { IsLive book.now.arena path }
     ensures items { result.now ≡ side_of side (sides_at book.now.lists path) }
     ensures once { IsOnceEach (side_of side (sides_at book.now.lists path)) }
 {
     match side {
-        Side::Left => book.lists().left(path),
-        Side::Right => book.lists().right(path),
+        ExtensionSide::Left => book.lists().left(path),
+        ExtensionSide::Right => book.lists().right(path),
     }
 }
 

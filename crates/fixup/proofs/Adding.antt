@@ -17,8 +17,8 @@ use Rattle.pair_heaps.proofs.Orders.{id_cmp_total}
 use Rattle.extension_lists.specs.Known.{sides_at}
 use Rattle.path_book.specs.Book.{Book, IsMarked, IsBook}
 use Rattle.fixup.specs.declared.listing.Join.{Join}
-use Rattle.fixup.specs.declared.listing.Side.{Side}
-use Rattle.fixup.specs.declared.listing.Side.TheVariants.{Left, Right}
+use Rattle.fixup.specs.declared.listing.PartnerSide.{PartnerSide}
+use Rattle.fixup.specs.declared.listing.PartnerSide.TheVariants.{Left, Right}
 use Rattle.fixup.specs.Owing.{CanBeWinners, AreOwed, IsOwed}
 use Rattle.fixup.specs.Listing.{AreAdded, Lists, ListsFrom, ListsAt, ListedByAny, Class, Yields, all_joins, join_at}
 use Rattle.fixup.proofs.Parts.{not_its_partner}
@@ -110,12 +110,12 @@ task_listed seen b winners k d old joins is inside none added =
 
 -- ---- the partners on one side
 
-same_partner : (side : Side) (w p q : ℕ) → join_at side w p ≡ join_at side w q → p ≡ q
+same_partner : (side : PartnerSide) (w p q : ℕ) → join_at side w p ≡ join_at side w q → p ≡ q
 same_partner Left w p q e = ap (λ j. j.left) e
 same_partner Right w p q e = ap (λ j. j.right) e
 
 -- one partner more, of whom all are listed
-pub partner_more : (side : Side) (w : ℕ) (partners : List ℕ) (i q : ℕ) → i < length partners → q ≡ get_or partners i q → (old now new : List Join) (j : Join)
+pub partner_more : (side : PartnerSide) (w : ℕ) (partners : List ℕ) (i q : ℕ) → i < length partners → q ≡ get_or partners i q → (old now new : List Join) (j : Join)
     → now ≡ old ++ map (join_at side w) (take i partners) → new ≡ now ++ j ∷ [] → j ≡ join_at side w q → new ≡ old ++ map (join_at side w) (take (i + 1) partners)
 partner_more side w partners i q inside at old now new j before is same =
     is ∙ ap (λ xs. xs ++ j ∷ []) before ∙ append_assoc old (map (join_at side w) (take i partners)) (j ∷ [])
@@ -151,7 +151,7 @@ sole (x ∷ []) w q one in_w in_q = elim (in_cons w x [] in_w) [
 sole (x ∷ y ∷ xs) w q one in_w in_q = let k : ⊥ = omega (arith, one) in absurd k
 
 -- the only winner lists its joins with all its partners
-pub side_whole : (a : Arena) (winners : List ℕ) (w : ℕ) (side : Side) (partners : List ℕ) → length winners ≡ 1 → Contains winners w → ((q : ℕ) → Contains partners q → q ≡ w → ⊥) → IsOnceEach partners
+pub side_whole : (a : Arena) (winners : List ℕ) (w : ℕ) (side : PartnerSide) (partners : List ℕ) → length winners ≡ 1 → Contains winners w → ((q : ℕ) → Contains partners q → q ≡ w → ⊥) → IsOnceEach partners
     → (old new : List Join) → new ≡ old ++ map (join_at side w) partners → AreAdded (ListsFrom a winners w side partners) old new
 side_whole a winners w side partners only one apart once old new is = record {
   more = map (join_at side w) partners;
@@ -164,7 +164,7 @@ side_whole a winners w side partners only one apart once old new is = record {
   );
 }
 
-module _ (a : Arena) (winners : List ℕ) (w : ℕ) (side : Side) (partners : List ℕ) where
+module _ (a : Arena) (winners : List ℕ) (w : ℕ) (side : PartnerSide) (partners : List ℕ) where
   -- the partners before a place
   abbrev pub Upto : ℕ → Join → Type 0
   Upto i = ListsFrom a winners w side (take i partners)

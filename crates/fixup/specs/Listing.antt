@@ -6,8 +6,8 @@ use Rattle.apsp_model.specs.Walk.{IsOnceEach}
 use Rattle.path_arena.specs.Arena.{Arena, left_of, right_of, id_cmp}
 use Rattle.path_book.specs.Book.{Book, book_code, IsMarked}
 use Rattle.fixup.specs.declared.listing.Join.{Join}
-use Rattle.fixup.specs.declared.listing.Side.{Side}
-use Rattle.fixup.specs.declared.listing.Side.TheVariants.{Left, Right}
+use Rattle.fixup.specs.declared.listing.PartnerSide.{PartnerSide}
+use Rattle.fixup.specs.declared.listing.PartnerSide.TheVariants.{Left, Right}
 
 -- a book, and the winners of a class of it
 pub record Class : Type 0 where
@@ -19,7 +19,7 @@ class_code =
     code_by (Book × List ℕ) (coded× book_code (coded_list coded_ℕ)) (λ c. (c.book, c.winners))
     (λ t. record { book = t.0; winners = t.1 }) (λ _. refl)
 
-abbrev pub join_at : Side → ℕ → ℕ → Join
+abbrev pub join_at : PartnerSide → ℕ → ℕ → Join
 join_at Left w q = record { left = q; right = w }
 join_at Right w q = record { left = w; right = q }
 
@@ -32,7 +32,7 @@ abbrev pub Yields : Arena → List ℕ → ℕ → ℕ → Type 0
 Yields a winners w q = Contains winners q → id_cmp a q w ≡ Less
 
 -- with these partners
-abbrev pub ListsFrom : Arena → List ℕ → ℕ → Side → List ℕ → Join → Type 0
+abbrev pub ListsFrom : Arena → List ℕ → ℕ → PartnerSide → List ℕ → Join → Type 0
 ListsFrom a winners w side partners j =
     (q : ℕ) × Contains partners q × Yields a winners w q × (j ≡ join_at side w q)
 

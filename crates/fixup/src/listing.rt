@@ -22,22 +22,22 @@ pub struct Join {
 
 /// Where the partners of a winner stand.
 #[derive(Clone, Copy)]
-pub(crate) enum Side {
+pub(crate) enum PartnerSide {
     Left,
     Right,
 }
 
-impl Side {
+impl PartnerSide {
     /// The join of a winner with a partner on this side.
     fn join(self, winner: PathId, partner: PathId) -> Join
         ensures { result ≡ join_at self winner partner }
     {
         match self {
-            Side::Left => Join {
+            PartnerSide::Left => Join {
                 left: partner,
                 right: winner,
             },
-            Side::Right => Join {
+            PartnerSide::Right => Join {
                 left: winner,
                 right: partner,
             },
@@ -84,8 +84,8 @@ pub(crate) fn list_winner(
     if winners.len() == 1 {
         return list_all(winner, in_front, behind, joins);
     }
-    list_side(arena, winners, winner, in_front, Side::Left, joins)?;
-    list_side(arena, winners, winner, behind, Side::Right, joins)
+    list_side(arena, winners, winner, in_front, PartnerSide::Left, joins)?;
+    list_side(arena, winners, winner, behind, PartnerSide::Right, joins)
 }
 
 /// Lists the joins of a winner with the partners on one side.
@@ -95,7 +95,7 @@ fn list_side(
     winners: &[PathId],
     winner: PathId,
     partners: &[PathId],
-    side: Side,
+    side: PartnerSide,
     joins: &mut Vec<Join>,
 ) -> Result<(), Memory>
     requires sorted { InOrder arena.now winners.now }
@@ -130,14 +130,14 @@ fn list_all(
     joins
         .reserve(in_front.len() + behind.len())
         .map_err(|_| Memory)?;
-    push_all(winner, in_front, Side::Left, joins);
-    push_all(winner, behind, Side::Right, joins);
+    push_all(winner, in_front, PartnerSide::Left, joins);
+    push_all(winner, behind, PartnerSide::Right, joins);
     Ok(())
 }
 
 /// Puts the joins of a winner with all partners on one side behind the others. There is room.
 #[inline(always)]
-fn push_all(winner: PathId, partners: &[PathId], side: Side, joins: &mut Vec<Join>)
+fn push_all(winner: PathId, partners: &[PathId], side: PartnerSide, joins: &mut Vec<Join>)
     requires room { vec_len joins.old + length partners.now ≤ vec_capacity joins.old }
     ensures listed { joins.new.items ≡ joins.old.items ++ map (join_at side winner) partners.now }
     ensures capacity { vec_capacity joins.new ≡ vec_capacity joins.old }

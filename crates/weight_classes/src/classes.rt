@@ -96,7 +96,7 @@ impl Classes {
         let Ok(heads) = no_heads(alloc, cells(n)) else {
             return Err(Memory);
         };
-        let Ok(buckets) = Vec::with_capacity(alloc, 2 * cells(n)) else {
+        let Ok(buckets) = Vec::with_capacity(alloc, 4 * cells(n)) else {
             return Err(Memory);
         };
         let Ok(turns) = Vec::with_capacity(alloc, cells(n) / 4) else {

@@ -3,7 +3,7 @@ use Rattle.std.proofs.lemmas.Result.{on_ok_weaker}
 use Rattle.path_arena.specs.Arena.{Arena, IsLive, left_of, right_of}
 use Rattle.path_arena.proofs.Paths.{live_from_edge}
 use Rattle.extension_lists.specs.Known.{Known, sides_at}
-use Rattle.fixup.specs.declared.listing.Side.TheVariants.{Left, Right}
+use Rattle.fixup.specs.declared.listing.PartnerSide.TheVariants.{Left, Right}
 use Rattle.fixup.specs.Listing.{AreAdded, ListsFrom}
 use Rattle.fixup.proofs.Adding.{fronts_are, behinds_are, winner_listed, winner_whole}
 use Rattle.fixup.proofs.listing.list_winner.Goals as goal
