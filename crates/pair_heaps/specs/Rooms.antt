@@ -1,5 +1,5 @@
 -- The room for one more id of a pair.
-use Rattle.std.specs.Prelude.{◌≡◌, ℕ, ◌<◌}
+use Rattle.std.specs.Prelude.{◌≡◌, ◌<◌}
 use Rattle.pair_heaps.specs.Heaps.{Heaps, place_of}
 use Rattle.pair_heaps.specs.declared.heaps.Room.{Room}
 

@@ -1,13 +1,12 @@
 -- What the calls change of the list of kept paths.
 use Rattle.std.specs.Prelude.{◌≡◌, ◌≢◌, ℕ, ◌<◌, ◌⊎◌, List, [], ◌∷◌, length, ◌↔◌, Bool, true, false, Option, Some, None, is_some, unwrap_or, refl, Contains}
-use Rattle.std.specs.Ordering.{nat_cmp}
 use Rattle.std.specs.FinSet as set
 use Rattle.std.proofs.Common.{sym, ◌∙◌, ap, subst, arith, inl, inr}
 use Rattle.std.proofs.lemmas.Bool.{cases_eq, false≢true}
 use Rattle.std.proofs.lemmas.List.{length-append}
 use Rattle.apsp_model.specs.Paths.{KeptPath}
 use Rattle.apsp_model.proofs.Members.{in_cons, in_nil, head_in, tail_in}
-use Rattle.path_arena.specs.Arena.{Arena, Path, path_at, vertex_of, IsLive, no_path, path_of, list_of, single, joined_path, CanJoin, without_path, with_path}
+use Rattle.path_arena.specs.Arena.{Path, path_at, vertex_of, IsLive, no_path, path_of, list_of, single, joined_path, CanJoin, without_path, with_path}
 use Rattle.path_arena.proofs.Keys.{get_put, get_put_other, get_gone, get_gone_other}
 use Rattle.path_arena.proofs.Paths.{live_from, live_apart, path_of_at, live_path, Meeting, meeting}
 use Rattle.extension_lists.specs.Known.{Known}

@@ -1,4 +1,3 @@
-use Rattle.std.proofs.Common.{Some, ◌≡◌, ◌≢◌}
 use Rattle.pair_heaps.proofs.Fits.{ends_in_rows}
 use Rattle.pair_heaps.proofs.heaps.Heaps.insert.Goals as goal
 
