@@ -10,6 +10,7 @@ ghost use Rattle.apsp_service.specs.Replies.{number_text, entry_text, dist_text,
 use block_run::Answer;
 use cert_check::{Reason, Verdict};
 use history_engine::{Counts, Least};
+use itoa::Buffer;
 use std::alloc::AllocError;
 use std::fmt::Write;
 
@@ -28,9 +29,10 @@ pub fn put_walk(text: &mut String, least: &Least<'_>) -> Result<(), AllocError>
         ++ number_text (weight_of_id least.now.book.arena least.now.id) ++ codes " walk"
         ++ flat_map number_text (list_of least.now.book.arena least.now.id)) }
 {
-    write!(text, " {} walk", least.weight())?;
+    put_number(text, least.weight())?;
+    text.push_str(" walk")?;
     for vertex in least.vertices() {
-        put_number(text, vertex)?;
+        put_number(text, u64::from(vertex))?;
     }
     Ok(())
 }
@@ -72,7 +74,8 @@ fn put_answer_walk(text: &mut String, dist: u64, walk: &[u32]) -> Result<(), All
     if walk.is_empty() {
         return text.push_str(" none");
     }
-    write!(text, " {dist} walk")?;
+    put_number(text, dist)?;
+    text.push_str(" walk")?;
     put_list(text, walk)
 }
 
@@ -119,7 +122,7 @@ pub fn put_entry(text: &mut String, distance: Option<u64>) -> Result<(), AllocEr
     ensures { OnOk result (string_bytes text.new ≡ string_bytes text.old ++ entry_text distance) }
 {
     match distance {
-        Some(distance) => write!(text, " {distance}"),
+        Some(distance) => put_number(text, distance),
         None => text.push_str(" none"),
     }
 }
@@ -139,14 +142,16 @@ fn put_list(text: &mut String, list: &[u32]) -> Result<(), AllocError>
     ensures { OnOk result (string_bytes text.new ≡ string_bytes text.old ++ flat_map number_text list.now) }
 {
     for vertex in list {
-        put_number(text, *vertex)?;
+        put_number(text, u64::from(*vertex))?;
     }
     Ok(())
 }
 
-/// A vertex behind a space.
-fn put_number(text: &mut String, vertex: u32) -> Result<(), AllocError>
-    ensures { OnOk result (string_bytes text.new ≡ string_bytes text.old ++ number_text vertex) }
+/// A number behind a space.
+fn put_number(text: &mut String, number: u64) -> Result<(), AllocError>
+    ensures { OnOk result (string_bytes text.new ≡ string_bytes text.old ++ number_text number) }
 {
-    write!(text, " {vertex}")
+    let mut digits = Buffer::new();
+    text.push(' ')?;
+    text.push_str(digits.format(number))
 }
