@@ -10,8 +10,8 @@ use Rattle.std.specs.Prelude.{unwrap_or}
 use Rattle.graph_store.specs.Plan.{Plan, plan_graph, hi_of}
 use Rattle.version_face.specs.Entries.{dist_in}
 use Rattle.block_run.specs.Answers.{IsAskOf, IsAnswer, BlockReply}
-use Rattle.apsp_service.specs.Blocks.{Block}
-use Rattle.apsp_service.specs.Replies.{answer_text}
+use Rattle.network_replies.specs.Blocks.{Block}
+use Rattle.network_replies.specs.Replies.{answer_text}
 use Rattle.apsp_service.specs.Session.{State, HasBlockReply}
 use Rattle.apsp_service.specs.Lawful.{IsBlockOf, IsLawfulState}
 

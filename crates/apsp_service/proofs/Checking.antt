@@ -5,10 +5,10 @@ use Rattle.std.specs.Io.KnownBytes.{Consumes, IsAtEnd, Appends}
 use Rattle.std.proofs.lemmas.List.{take-append-drop, take_all}
 use Rattle.std.specs.declared.alloc.Global.{Global}
 use Rattle.std.specs.declared.vec.Vec.{Vec}
-use Rattle.apsp_service.specs.Streams.{SourceSeen, SinkSeen, Streams}
-use Rattle.apsp_service.specs.declared.words.Mode.TheVariants as mode
-use Rattle.apsp_service.specs.declared.stop.Stop.{Stop}
-use Rattle.apsp_service.specs.declared.stop.Stop.TheVariants as stop
+use Rattle.network_replies.specs.Streams.{SourceSeen, SinkSeen, Streams}
+use Rattle.command_line.specs.declared.words.Mode.TheVariants as mode
+use Rattle.network_replies.specs.declared.stop.Stop.{Stop}
+use Rattle.network_replies.specs.declared.stop.Stop.TheVariants as stop
 use Rattle.apsp_service.specs.declared.run.TheConstants.{MOST_INPUT}
 use Rattle.apsp_service.specs.Check.{IsChecked}
 use Rattle.apsp_service.specs.Giving.{TextGiven}

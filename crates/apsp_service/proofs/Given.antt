@@ -9,26 +9,18 @@ use Rattle.apsp_io.specs.Streams.{Rose, GrowsByPrefix}
 use Rattle.script_reader.specs.Meaning.{line_of}
 use Rattle.script_reader.specs.Refused.{Refusal}
 use Rattle.script_reader.specs.declared.Line.{Line}
-use Rattle.apsp_model.specs.Stated.{Stated}
-use Rattle.apsp_io.specs.declared.sink.GiveError.{GiveError}
-use Rattle.apsp_io.specs.declared.sink.GiveError.TheVariants as give
-use Rattle.version_face.specs.Seen.{VersionSeen}
-use Rattle.history_engine.specs.Seen.{EngineSeen as Engine}
-use Rattle.certificate.specs.Grammar.{text_of}
-use Rattle.certificate.specs.Giving.{IsStatedOf, GivesText}
-use Rattle.apsp_service.specs.Certificate.{IsTextOf, version_of}
 use Rattle.script_reader.specs.declared.Line.TheVariants as line
 use Rattle.std.specs.List.{flat_map}
 use Rattle.block_run.specs.declared.answers.Answer.{Answer}
-use Rattle.apsp_service.specs.Replies.{answer_text}
-use Rattle.apsp_service.specs.declared.stop.Stop.{Stop}
-use Rattle.apsp_service.specs.declared.stop.Stop.TheVariants as stop
+use Rattle.network_replies.specs.Replies.{answer_text}
+use Rattle.network_replies.specs.declared.stop.Stop.{Stop}
+use Rattle.network_replies.specs.declared.stop.Stop.TheVariants as stop
 use Rattle.apsp_service.specs.Session.{State, HasAnswer, HasLineReply, LineHasReply, HasReply, HaveReplies, HaveAllReplies, ending_of, context_of, counted, after_read, after_line, after_lines}
-use Rattle.apsp_service.specs.Giving.{Gave, GaveAll, GaveFront, GaveFrontOfAll, StopsAmong, GivingEnds, TextGiven, CertificateGiven, as_stop}
-use Rattle.apsp_service.specs.Growing.{LinesGiven, GrowsBy}
+use Rattle.apsp_service.specs.Giving.{Gave, GaveAll, GaveFront, GaveFrontOfAll, StopsAmong, GivingEnds, TextGiven, CertificateGiven}
+use Rattle.network_replies.specs.Growing.{LinesGiven, GrowsBy}
 use Rattle.apsp_service.specs.Lawful.{IsLawfulState}
 use Rattle.apsp_service.proofs.Replied.{replies_append, one_reply, front_of_more, front_behind, front_none}
-use Rattle.apsp_service.proofs.Seen.{sink_at}
+use Rattle.network_replies.proofs.Seen.{sink_at}
 
 pub appends_nothing : (old : Option (List ℕ)) → Appends old old []
 appends_nothing None = tt
@@ -193,19 +185,6 @@ certificate_gives r old new before now s content reading given =
     let here : CertificateGiven r (sink_at old before) (sink_at new now) (counted s) = subst F reading given in
     let G : Result Line Refusal → Type 0 = λ read. HasAnswer s read here.0 in
     lines_give r old new before now s content here.0 (subst G (sym reading) here.1) here.2
-
--- the certificate of a version was written
-pub certificate_written : (r : Result (Unit {0}) Stop) (g : Result (Unit {0}) GiveError) (v : VersionSeen) (e : Engine) (old new : Option (List ℕ)) (before now : ℕ) → r ≡ as_stop g → v.graph ≡ e.graph → v.number ≡ length e.vertices → (s : Stated) × IsStatedOf v s × GivesText g old new before now (text_of s) → (text : List ℕ) × IsTextOf (version_of e) text × LinesGiven r (sink_at old before) (sink_at new now) text
-certificate_written r g v e old new before now stopped graph number written =
-    let same : v ≡ version_of e = λ i. record { number = number i; graph = graph i } in
-    let F : VersionSeen → Type 0 = λ w. IsStatedOf w written.0 in
-    let G : Result (Unit {0}) Stop → Type 0 = λ z. LinesGiven z (sink_at old before) (sink_at new now) (text_of written.0) in
-    (text_of written.0, (written.0, subst F same written.1, refl), subst G (sym stopped) (at g written.2))
-  where
-    at : (h : Result (Unit {0}) GiveError) → GivesText h old new before now (text_of written.0) → LinesGiven (as_stop h) (sink_at old before) (sink_at new now) (text_of written.0)
-    at (Ok u) w = w
-    at (Err give.Failed) w = w
-    at (Err give.Memory) w = w
 
 -- ---- what a `?` passes on
 

@@ -1,11 +1,9 @@
-pub mod Seen
 pub mod Lines
 pub mod Lawful
 pub mod BlockAnswered
 pub mod Replied
 pub mod Checked
 pub mod OneText
-pub mod Texts
 pub mod LineReads
 pub mod Given
 pub mod Standing
@@ -15,4 +13,3 @@ pub mod Outcomes
 pub mod Checking
 pub mod Loads
 pub mod LoadEnds
-pub mod Options

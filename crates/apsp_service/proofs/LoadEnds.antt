@@ -4,11 +4,11 @@ use Rattle.std.specs.Prelude.{Option, Some, None, Result, Ok, Err, IsErrAnd}
 use Rattle.std.specs.Io.KnownBytes.{Consumes, Appends}
 use Rattle.std.proofs.lemmas.List.{take-append-drop}
 use Rattle.certificate.proofs.Given.{appends_nothing}
-use Rattle.apsp_service.specs.Streams.{SourceSeen, SinkSeen}
-use Rattle.apsp_service.specs.declared.words.Mode.{Mode}
-use Rattle.apsp_service.specs.declared.words.Mode.TheVariants as mode
-use Rattle.apsp_service.specs.declared.stop.Stop.{Stop}
-use Rattle.apsp_service.specs.declared.stop.Stop.TheVariants as stop
+use Rattle.network_replies.specs.Streams.{SourceSeen, SinkSeen}
+use Rattle.command_line.specs.declared.words.Mode.{Mode}
+use Rattle.command_line.specs.declared.words.Mode.TheVariants as mode
+use Rattle.network_replies.specs.declared.stop.Stop.{Stop}
+use Rattle.network_replies.specs.declared.stop.Stop.TheVariants as stop
 use Rattle.apsp_service.specs.Giving.{TextGiven}
 use Rattle.apsp_service.specs.Load.{IsLoadReply}
 use Rattle.apsp_service.specs.Outcome.{IsLoadEnd}

@@ -13,19 +13,20 @@ use Rattle.script_reader.specs.Meaning.{line_of}
 use Rattle.script_reader.specs.Refused.{Refusal}
 use Rattle.script_reader.specs.declared.Line.{Line}
 use Rattle.script_reader.specs.declared.Line.TheVariants as line
-use Rattle.apsp_service.specs.declared.words.Mode.{Mode}
-use Rattle.apsp_service.specs.declared.words.Mode.TheVariants as mode
-use Rattle.apsp_service.specs.Age.{IsBirth}
-use Rattle.apsp_service.specs.Distance.{IsDistance, AreDistances}
-use Rattle.apsp_service.specs.Replies.{dist_text, row_text, path_text, stats_text, age_text}
-use Rattle.apsp_service.specs.Session.{State, HasReply, HasBlockReply, HasLineReply, HasAnswer, HaveReplies, HaveAllReplies, HasSession, HasOneText, HasOneStatus, has_blocks, first_state, ending_of, accepted, counted, star_with, graph_here, updated_in, begun_in, asked_in, ended_in, after_read, after_line, after_lines, context_of, status_of}
+use Rattle.command_line.specs.declared.words.Mode.{Mode}
+use Rattle.command_line.specs.declared.words.Mode.TheVariants as mode
+use Rattle.network_replies.specs.Age.{IsBirth}
+use Rattle.network_replies.specs.Distance.{IsDistance, AreDistances}
+use Rattle.network_replies.specs.Replies.{dist_text, row_text, path_text, stats_text, age_text}
+use Rattle.apsp_service.specs.Session.{State, HasReply, HasBlockReply, HasLineReply, HasAnswer, HaveReplies, HaveAllReplies, HasSession, HasOneText, HasOneStatus, has_blocks, first_state, ending_of, accepted, counted, graph_here, updated_in, begun_in, asked_in, ended_in, after_read, after_line, after_lines, context_of, status_of}
+use Rattle.network_replies.specs.EdgeStar.{star_with}
 use Rattle.certificate.specs.Grammar.{text_of}
 use Rattle.certificate.proofs.VersionLaws.{one_stated_of}
-use Rattle.apsp_service.specs.Certificate.{version_after}
+use Rattle.network_replies.specs.Certificate.{version_after}
 use Rattle.apsp_service.proofs.Checked.{checked_exists, one_checked}
 use Rattle.apsp_model.specs.Star.{Star}
 use Rattle.block_run.specs.declared.asks.Ask.{Ask}
-use Rattle.apsp_service.specs.Blocks.{Block}
+use Rattle.network_replies.specs.Blocks.{Block}
 use Rattle.apsp_service.specs.Lawful.{IsLawfulState}
 use Rattle.apsp_service.proofs.Lawful.{opening_lawful}
 use Rattle.apsp_service.proofs.Replied.{replies_exist}

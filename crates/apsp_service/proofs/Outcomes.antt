@@ -4,11 +4,11 @@ use Rattle.std.specs.Prelude.{◌↔◌, Option, Some, None, Result, Ok, Err, If
 use Rattle.std.specs.Io.KnownBytes.{Consumes, IsAtEnd, Appends}
 use Rattle.apsp_io.specs.Streams.{Rose}
 use Rattle.script_reader.specs.Input.{lines_of, whole_lines}
-use Rattle.apsp_service.specs.Streams.{Streams}
-use Rattle.apsp_service.specs.declared.words.Mode.{Mode}
-use Rattle.apsp_service.specs.declared.words.Mode.TheVariants as mode
-use Rattle.apsp_service.specs.declared.stop.Stop.{Stop}
-use Rattle.apsp_service.specs.declared.stop.Stop.TheVariants as stop
+use Rattle.network_replies.specs.Streams.{Streams}
+use Rattle.command_line.specs.declared.words.Mode.{Mode}
+use Rattle.command_line.specs.declared.words.Mode.TheVariants as mode
+use Rattle.network_replies.specs.declared.stop.Stop.{Stop}
+use Rattle.network_replies.specs.declared.stop.Stop.TheVariants as stop
 use Rattle.apsp_service.specs.declared.run.TheConstants.{MOST_INPUT}
 use Rattle.apsp_service.specs.Session.{State, Session, HasSession, HasWholeReplies, HaveReplies, first_state, has_blocks, has_refused, after_lines, status_of}
 use Rattle.apsp_service.specs.Running.{RunEnds, RanToEnd, StoppedAfter, StoppedAmong}

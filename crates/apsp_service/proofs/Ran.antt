@@ -6,15 +6,15 @@ use Rattle.std.proofs.Math.Seq.{take-append-add}
 use Rattle.std.proofs.lemmas.List.{take_all, take-append-le, take-take}
 use Rattle.std.specs.Io.KnownBytes.{Consumes, Keeps, IsAtEnd, Appends}
 use Rattle.script_reader.specs.Input.{lines_of, line_if_some}
-use Rattle.apsp_service.specs.Streams.{SourceSeen, SinkSeen, Streams}
+use Rattle.network_replies.specs.Streams.{SourceSeen, SinkSeen, Streams}
 use Rattle.apsp_service.specs.declared.session.Session.{Session}
-use Rattle.apsp_service.specs.declared.stop.Stop.{Stop}
-use Rattle.apsp_service.specs.declared.stop.Stop.TheVariants as stop
+use Rattle.network_replies.specs.declared.stop.Stop.{Stop}
+use Rattle.network_replies.specs.declared.stop.Stop.TheVariants as stop
 use Rattle.apsp_service.specs.declared.run.TheConstants.{MOST_INPUT}
 use Rattle.apsp_service.specs.Begun.{lines_from, rest_from}
 use Rattle.apsp_service.specs.Session.{State, first_state, ending_of, has_refused, after_lines}
 use Rattle.apsp_service.specs.Giving.{Gave, GaveFront, GaveFrontOfAll, StopsAmong}
-use Rattle.apsp_service.specs.Growing.{LinesGiven}
+use Rattle.network_replies.specs.Growing.{LinesGiven}
 use Rattle.apsp_service.specs.Standing.{HasStateAndContent, HasTaken}
 use Rattle.apsp_service.specs.Running.{SoFar, StoppedAfter, StoppedAmong, StopsRun, TookPiece, PieceEnds, with_faults_of, AtEnd, AllEnds, RanToEnd, RunEnds, TakeEnds}
 use Rattle.apsp_io.specs.Streams.{GrowsByPrefix}
@@ -23,7 +23,7 @@ use Rattle.apsp_service.proofs.Lines.{lines_from-append, lines_go_on, lines_at_e
 use Rattle.apsp_service.proofs.Replied.{after_lines-append, front_none, front_of_more}
 use Rattle.apsp_service.proofs.Given.{front_to_end, front_in_ending, gave_to_end, appends_nothing, gave_nothing, gave_more, rose_later, stops_behind}
 use Rattle.apsp_service.proofs.Taken.{after_front, gave_front}
-use Rattle.apsp_service.proofs.Seen.{sink_at}
+use Rattle.network_replies.proofs.Seen.{sink_at}
 
 -- ---- what the source gave
 

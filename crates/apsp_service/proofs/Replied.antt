@@ -9,12 +9,12 @@ use Rattle.apsp_model.specs.Command.{Command, graph_of}
 use Rattle.apsp_model.specs.Walk.{weight_of}
 use Rattle.apsp_model.proofs.Exists.{least_or_none, least_is_some_option}
 use Rattle.history_engine.proofs.Existing.{counts_exist, birth_exists}
-use Rattle.apsp_service.specs.Age.{IsAgeReply}
+use Rattle.network_replies.specs.Age.{IsAgeReply}
 use Rattle.certificate.specs.Grammar.{text_of}
 use Rattle.certificate.proofs.Versions.{value_of, value_is}
-use Rattle.apsp_service.specs.Certificate.{version_after}
-use Rattle.apsp_service.specs.Distance.{IsDistance}
-use Rattle.apsp_service.specs.Replies.{dist_text, row_text, path_text, stats_text, age_text, error_text}
+use Rattle.network_replies.specs.Certificate.{version_after}
+use Rattle.network_replies.specs.Distance.{IsDistance}
+use Rattle.network_replies.specs.Replies.{dist_text, row_text, path_text, stats_text, age_text, error_text}
 use Rattle.script_reader.specs.Meaning.{line_of}
 use Rattle.script_reader.specs.Refused.{Refusal}
 use Rattle.script_reader.specs.declared.Line.{Line}
@@ -22,6 +22,7 @@ use Rattle.script_reader.specs.declared.Line.TheVariants as line
 use Rattle.apsp_service.specs.Session.{State, HasReply, HasLineReply, HasAnswer, LineHasReply, HaveReplies, after_line, after_lines, context_of}
 use Rattle.apsp_service.specs.Giving.{IsFrontOfReplies}
 use Rattle.apsp_service.specs.Lawful.{IsLawfulState}
+use Rattle.network_replies.proofs.Rows.{IsFirstRow, row_none, row_more}
 use Rattle.apsp_service.proofs.Lawful.{line_lawful, lines_lawful}
 use Rattle.apsp_service.proofs.BlockAnswered.{block_reply_exists}
 
@@ -29,27 +30,6 @@ use Rattle.apsp_service.proofs.BlockAnswered.{block_reply_exists}
 
 pub distance_exists : (g : Graph) (x y : ℕ) → (d : Option ℕ) × IsDistance g x y d
 distance_exists g x y = elim (least_or_none g x y) [ inl p ↦ (Some (weight_of g p.0), (p.0, p.1, refl)) | inr none ↦ (None, none) ]
-
--- the first n of them
-pub record IsFirstRow (g : Graph) (x n : ℕ) (row : List (Option ℕ)) : Type 0 where
-  pub size : length row ≡ n
-  pub each : (y : ℕ) → y < n → IsDistance g x y (get_or row y None)
-
-pub row_none : (g : Graph) (x : ℕ) → IsFirstRow g x 0 []
-row_none g x = record { size = refl; each = λ y l. absurd (omega arith) }
-
-pub row_more : (g : Graph) (x n : ℕ) (d : Option ℕ) (row : List (Option ℕ)) → IsFirstRow g x n row → IsDistance g x n d → IsFirstRow g x (n + 1) (row ++ d ∷ [])
-row_more g x n d row r is = record { size = omega (arith, length-append row (d ∷ []), r.size); each = each }
-  where
-    each : (y : ℕ) → y < n + 1 → IsDistance g x y (get_or (row ++ d ∷ []) y None)
-    each y l = elim (cases_lt y n) [
-      | inl less ↦ subst (IsDistance g x y) (sym (get_or-append row (d ∷ []) None y (omega (arith, r.size)))) (r.each y less)
-      | inr more ↦
-          let same : y ≡ length row = omega (arith, r.size) in
-          let at_n : n ≡ y = omega arith in
-          let found : get_or (row ++ d ∷ []) y None ≡ d = ap (λ k. get_or (row ++ d ∷ []) k None) same ∙ get_or-append_seam row d [] None in
-          subst (IsDistance g x y) (sym found) (subst (λ k. IsDistance g x k d) at_n is)
-    ]
 
 row_exists : (g : Graph) (x n : ℕ) → (row : List (Option ℕ)) × IsFirstRow g x n row
 row_exists g x zero = ([], row_none g x)

@@ -13,24 +13,25 @@ use Rattle.script_reader.specs.Refused.{Refusal}
 use Rattle.script_reader.specs.declared.Line.{Line}
 use Rattle.script_reader.specs.declared.Line.TheVariants as line
 use Rattle.version_face.specs.Seen.{VersionSeen as Version}
-use Rattle.apsp_service.specs.declared.stop.Stop.{Stop}
-use Rattle.apsp_service.specs.Certificate.{version_of, version_after, IsTextOf}
-use Rattle.apsp_service.specs.Session.{State, HasReply, HasBlockReply, context_at, context_of, star_with, graph_here, accepted, counted, updated_in, begun_in, fresh_block, asked_in, ended_in, with_updates, after_read, after_line}
+use Rattle.network_replies.specs.declared.stop.Stop.{Stop}
+use Rattle.network_replies.specs.Certificate.{version_of, version_after, IsTextOf}
+use Rattle.apsp_service.specs.Session.{State, HasReply, HasBlockReply, context_at, context_of, graph_here, accepted, counted, updated_in, begun_in, fresh_block, asked_in, ended_in, with_updates, after_read, after_line}
+use Rattle.network_replies.specs.EdgeStar.{star_with}
 use Rattle.graph_store.specs.Plan.{Plan, with_star, hi_of}
 use Rattle.block_run.specs.declared.asks.Ask.{Ask}
 use Rattle.block_run.specs.declared.answers.Answer.{Answer}
 use Rattle.block_run.specs.Run.{AdvancesBy, CanRun, HasRun}
-use Rattle.apsp_service.specs.Blocks.{Block, last_graph, updates_in, asks_in}
-use Rattle.apsp_service.specs.Replies.{answer_text}
+use Rattle.network_replies.specs.Blocks.{Block, last_graph, updates_in, asks_in}
+use Rattle.network_replies.specs.Replies.{answer_text}
 use Rattle.std.specs.List.{flat_map}
 use Rattle.apsp_service.specs.Lawful.{IsBlockOf, IsLawfulState}
 use Rattle.apsp_service.proofs.Lawful.{accepted_lawful, here_vertices}
 use Rattle.script_reader.specs.Answer.{FitsContext}
 use Rattle.apsp_service.specs.declared.session.Session.{Session}
 use Rattle.apsp_service.specs.Giving.{HasNetwork, HasInside, IsNetworkOf, CanBeUpdated, CertificateGiven, vertices_in}
-use Rattle.apsp_service.specs.Growing.{GrowsBy, LinesGiven}
+use Rattle.network_replies.specs.Growing.{GrowsBy, LinesGiven}
 use Rattle.apsp_service.specs.Standing.{HasState}
-use Rattle.apsp_service.proofs.Seen.{sink_at}
+use Rattle.network_replies.proofs.Seen.{sink_at}
 
 -- the state of a session does not hang on the line that is begun
 pub with_line : (session : Session) (cutter : Cutting) (s : State) → HasState session s → HasState (record session { cutter = cutter }) s
@@ -312,13 +313,6 @@ some_readers seen b s h = at s.readers refl
     at : (r : Option ℕ) → s.readers ≡ r → IsSome r
     at None e = absurd (let k : Some b ≡ None = h.block ∙ h.lawful.live e in cc)
     at (Some n) e = refl
-
--- a run for a number of readers is one for an equal number
-pub run_for : {E : Type 0} (n x : ℕ) (before after : EngineSeen) (p : Plan) (asks : List Ask) (r : Result (List Answer) E) → Some n ≡ Some x → HasRun n before p asks r after → HasRun x before p asks r after
-run_for n x before after p asks r is run =
-    let same : n ≡ x = cc in
-    let F : ℕ → Type 0 = λ k. HasRun k before p asks r after in
-    subst F same run
 
 pub inside_as : (seen : Option EngineSeen) (open_block : Option Block) (e : EngineSeen) (b : Block) (s : State) → seen ≡ Some e → open_block ≡ Some b → HasInside seen open_block s → HasInside (Some e) (Some b) s
 inside_as seen open_block e b s se ob h =

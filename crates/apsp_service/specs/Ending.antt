@@ -4,10 +4,10 @@ use Rattle.std.specs.Io.KnownBytes.{Consumes, IsAtEnd, Appends}
 use Rattle.std.specs.declared.alloc.Global.{Global}
 use Rattle.std.specs.declared.vec.Vec.{Vec}
 use Rattle.apsp_io.specs.Streams.{Rose}
-use Rattle.apsp_service.specs.Streams.{SourceSeen, Streams}
-use Rattle.apsp_service.specs.declared.words.Mode.{Mode}
-use Rattle.apsp_service.specs.declared.stop.Stop.{Stop}
-use Rattle.apsp_service.specs.declared.stop.Stop.TheVariants as stop
+use Rattle.network_replies.specs.Streams.{SourceSeen, Streams}
+use Rattle.command_line.specs.declared.words.Mode.{Mode}
+use Rattle.network_replies.specs.declared.stop.Stop.{Stop}
+use Rattle.network_replies.specs.declared.stop.Stop.TheVariants as stop
 use Rattle.apsp_service.specs.declared.run.TheConstants.{MOST_INPUT}
 use Rattle.apsp_service.specs.Outcome.{status_after, IsCheck, IsAnswered, IsStoppedEarly, GotFront}
 

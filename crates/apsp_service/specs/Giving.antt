@@ -4,23 +4,21 @@ use Rattle.std.specs.List.{flat_map}
 use Rattle.std.specs.Io.KnownBytes.{Appends}
 use Rattle.apsp_model.specs.declared.TheConstants.{MOST_UPDATES}
 use Rattle.apsp_io.specs.Streams.{Rose, GrowsByPrefix}
-use Rattle.apsp_io.specs.declared.sink.GiveError.{GiveError}
-use Rattle.apsp_io.specs.declared.sink.GiveError.TheVariants as give
 use Rattle.history_engine.specs.Seen.{EngineSeen}
 use Rattle.history_engine.specs.Advance.{Stands}
 use Rattle.script_reader.specs.Meaning.{line_of}
 use Rattle.script_reader.specs.declared.Line.TheVariants as line
-use Rattle.apsp_service.specs.Streams.{SinkSeen}
-use Rattle.apsp_service.specs.Certificate.{IsCertReply}
-use Rattle.apsp_service.specs.Growing.{LinesGiven}
-use Rattle.apsp_service.specs.Replies.{answer_text}
+use Rattle.network_replies.specs.Streams.{SinkSeen}
+use Rattle.network_replies.specs.Certificate.{IsCertReply}
+use Rattle.network_replies.specs.Growing.{LinesGiven}
+use Rattle.network_replies.specs.Replies.{answer_text}
 use Rattle.apsp_service.specs.Session.{State, context_of, LineHasReply, HaveReplies, HaveAllReplies}
-use Rattle.apsp_service.specs.Blocks.{Block, updates_in, asks_in}
+use Rattle.network_replies.specs.Blocks.{Block, updates_in, asks_in}
 use Rattle.apsp_service.specs.Lawful.{IsLawfulState}
 use Rattle.apsp_service.specs.declared.session.Reply.{Reply}
 use Rattle.apsp_service.specs.declared.session.Reply.TheVariants as reply
-use Rattle.apsp_service.specs.declared.stop.Stop.{Stop}
-use Rattle.apsp_service.specs.declared.stop.Stop.TheVariants as stop
+use Rattle.network_replies.specs.declared.stop.Stop.{Stop}
+use Rattle.network_replies.specs.declared.stop.Stop.TheVariants as stop
 
 -- the sink got the replies to these lines
 abbrev pub Gave : Option (List ℕ) → Option (List ℕ) → State → List (List ℕ) → Type 0
@@ -61,12 +59,6 @@ TextGiven (Err stop.Source) old new text = ⊥
 TextGiven (Err stop.Sink) old new text = GrowsByPrefix old.held new.held text × Rose old.faults new.faults
 TextGiven (Err stop.Memory) old new text = Appends old.held new.held []
 TextGiven (Err stop.Limit) old new text = ⊥
-
--- a sink's answer, as that of a session
-abbrev pub as_stop : Result (Unit {0}) GiveError → Result (Unit {0}) Stop
-as_stop (Ok u) = Ok u
-as_stop (Err give.Failed) = Err stop.Sink
-as_stop (Err give.Memory) = Err stop.Memory
 
 -- the certificate of the state's version was given, or a front of it
 abbrev pub CertificateGiven : {A : Type 0} → Result A Stop → SinkSeen → SinkSeen → State → Type 0

@@ -4,7 +4,7 @@ use Rattle.apsp_model.specs.declared.TheConstants.{MOST_VERTICES}
 use Rattle.apsp_model.specs.Command.{Command, graph_of, vertices_of}
 use Rattle.apsp_model.specs.Star.{Star}
 use Rattle.block_run.specs.Answers.{IsAskOf}
-use Rattle.apsp_service.specs.Blocks.{Block}
+use Rattle.network_replies.specs.Blocks.{Block}
 use Rattle.apsp_service.specs.Session.{State}
 
 -- the plan begins behind the commands, and its questions are about it

@@ -3,26 +3,26 @@ use Rattle.std.specs.Prelude.{◌≡◌, ℕ, ◌+◌, Bool, true, false, List, 
 use Rattle.std.specs.List.{flat_map}
 use Rattle.apsp_model.specs.Command.{Command, Update, graph_of, vertices_of}
 use Rattle.apsp_model.specs.Graph.{Graph}
-use Rattle.apsp_model.specs.Star.{Star, star_at}
-use Rattle.graph_store.specs.Edges.{with_maybe_edge}
+use Rattle.apsp_model.specs.Star.{Star}
 use Rattle.script_reader.specs.Input.{lines_of, whole_lines}
 use Rattle.script_reader.specs.Meaning.{line_of}
 use Rattle.script_reader.specs.Refused.{Refusal}
 use Rattle.script_reader.specs.declared.Context.{Context}
 use Rattle.script_reader.specs.declared.Line.{Line}
 use Rattle.script_reader.specs.declared.Line.TheVariants as line
-use Rattle.apsp_service.specs.declared.words.Mode.{Mode}
-use Rattle.apsp_service.specs.declared.words.Mode.TheVariants as mode
-use Rattle.apsp_service.specs.Distance.{IsDistReply, IsRowReply}
-use Rattle.apsp_service.specs.Path.{IsPathReply}
-use Rattle.apsp_service.specs.Stats.{IsStatsReply}
-use Rattle.apsp_service.specs.Age.{IsAgeReply}
-use Rattle.apsp_service.specs.Certificate.{IsCertReply}
+use Rattle.command_line.specs.declared.words.Mode.{Mode}
+use Rattle.command_line.specs.declared.words.Mode.TheVariants as mode
+use Rattle.network_replies.specs.EdgeStar.{star_with}
+use Rattle.network_replies.specs.Distance.{IsDistReply, IsRowReply}
+use Rattle.network_replies.specs.Path.{IsPathReply}
+use Rattle.network_replies.specs.Stats.{IsStatsReply}
+use Rattle.network_replies.specs.Age.{IsAgeReply}
+use Rattle.network_replies.specs.Certificate.{IsCertReply}
 use Rattle.apsp_service.specs.Check.{IsChecked}
 use Rattle.apsp_service.specs.Load.{IsLoadReply}
-use Rattle.apsp_service.specs.Replies.{error_text, answer_text}
+use Rattle.network_replies.specs.Replies.{error_text, answer_text}
 use Rattle.graph_store.specs.Plan.{with_star}
-use Rattle.apsp_service.specs.Blocks.{Block, last_graph, updates_in, asks_in}
+use Rattle.network_replies.specs.Blocks.{Block, last_graph, updates_in, asks_in}
 use Rattle.block_run.specs.Answers.{BlockReply}
 use Rattle.block_run.specs.declared.asks.Ask.{Ask}
 use Rattle.block_run.specs.declared.answers.Answer.{Answer}
@@ -103,10 +103,6 @@ with_updates (star ∷ stars) commands = with_updates stars (Update star ∷ com
 abbrev pub ended_in : State → Option Block → State
 ended_in s None = s
 ended_in s (Some b) = record s { commands = with_updates b.plan.stars s.commands; block = None }
-
--- the star that u has, with the edge to v of this weight or without it
-abbrev pub star_with : Graph → ℕ → ℕ → Option ℕ → Star
-star_with g u v w = with_maybe_edge (star_at g u) (u, v) w
 
 -- what an accepted line changes
 abbrev pub accepted : State → Line → State

@@ -1,21 +1,21 @@
 //! A run that checks: the whole input is read as a certificate, and one line says what holds of it.
 
-ghost use Rattle.std.specs.Prelude.{◌≡◌, ◌≤◌, [], ◌++◌, length, IfOk, Ok, true, string_bytes};
-ghost use Rattle.apsp_service.specs.declared.words.Mode.TheVariants as mode;
+ghost use Rattle.std.specs.Prelude.{◌≡◌, ◌≤◌, [], ◌++◌, length, IfOk, OnOk, Ok, true, string_bytes};
+ghost use Rattle.command_line.specs.declared.words.Mode.TheVariants as mode;
 ghost use Rattle.cert_check.specs.Tests.{IsVerdict};
-ghost use Rattle.apsp_service.specs.Check.{IsChecked, verdict_text, verdict_status, fault_text};
+ghost use Rattle.apsp_service.specs.Check.{IsChecked, reason_text, verdict_text, verdict_status, fault_text};
 ghost use Rattle.apsp_service.specs.Ending.{EndsAs, AllTaken, MoreEnds};
 ghost use Rattle.apsp_service.specs.Outcome.{status_after};
-ghost use Rattle.apsp_service.specs.Streams.{source_seen, streams};
+ghost use Rattle.network_replies.specs.Streams.{source_seen, streams};
 
-use crate::replies::{put_fault, put_verdict};
 use crate::run::{MOST_INPUT, PIECE, take};
 use crate::session::give;
-use crate::stop::Stop;
 use apsp_io::{Sink, Source};
-use cert_check::{Verdict, check};
+use cert_check::{Reason, Verdict, check};
 use certificate::{CertError, Stated, read_certificate};
+use network_replies::Stop;
 use std::alloc::{AllocError, Global};
+use std::fmt::Write;
 
 /// The number of each test that a line of a certificate may fail.
 const SHAPE: u32 = 1;
@@ -111,4 +111,35 @@ fn put_refusal(text: &mut String, code: u32, line: u32) -> Result<bool, AllocErr
 {
     put_fault(text, code, line)?;
     Ok(true)
+}
+
+/// What is said of a certificate.
+fn put_verdict(text: &mut String, verdict: Verdict) -> Result<(), AllocError>
+    ensures { OnOk result (string_bytes text.new ≡ string_bytes text.old ++ verdict_text verdict) }
+{
+    match verdict {
+        Verdict::Yes(number) => write!(text, "certificate yes {number}\n"),
+        Verdict::No { x, y, reason } => {
+            write!(text, "certificate no {x} {y} {}\n", reason_word(reason))
+        }
+    }
+}
+
+/// What is said of a text that is no certificate: the test that its first line at fault fails, and the
+/// number of that line.
+fn put_fault(text: &mut String, code: u32, line: u32) -> Result<(), AllocError>
+    ensures { OnOk result (string_bytes text.new ≡ string_bytes text.old ++ fault_text code line) }
+{
+    write!(text, "certificate error {code} at {line}\n")
+}
+
+/// The word for a failing test.
+fn reason_word(reason: Reason) -> &'static str
+    ensures { result.now ≡ reason_text reason }
+{
+    match reason {
+        Reason::Step => "step",
+        Reason::Smaller => "smaller",
+        Reason::Missing => "missing",
+    }
 }

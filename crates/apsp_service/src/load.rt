@@ -2,17 +2,17 @@
 
 ghost use Rattle.std.specs.Prelude.{◌≡◌, ◌≤◌, ◌++◌, OnOk, string_bytes};
 ghost use Rattle.apsp_model.specs.Limits.{IsWorkerCount};
-ghost use Rattle.apsp_service.specs.Words.{IsLoadSize};
+ghost use Rattle.command_line.specs.Words.{IsLoadSize};
 ghost use Rattle.apsp_service.specs.Load.{load_text};
 ghost use Rattle.apsp_service.specs.Outcome.{IsLoadEnd};
 ghost use Rattle.apsp_service.specs.Ending.{EndsAs};
-ghost use Rattle.apsp_service.specs.Streams.{SourceSeen, sink_seen};
-ghost use Rattle.apsp_service.specs.declared.words.Mode.TheVariants as mode;
+ghost use Rattle.network_replies.specs.Streams.{SourceSeen, sink_seen};
+ghost use Rattle.command_line.specs.declared.words.Mode.TheVariants as mode;
 
 use crate::session::give;
-use crate::stop::Stop;
 use apsp_io::{Gate, Sink};
 use load_run::{LoadReport, run_load};
+use network_replies::Stop;
 use std::alloc::{AllocError, Global};
 use std::fmt::Write;
 use std::marker::Sync;

@@ -1,17 +1,15 @@
 //! A run over an input: from the source, piece by piece, to the sink, reply by reply.
 
 ghost use Rattle.std.specs.Prelude.{◌≡◌, ◌<◌, ◌≤◌, ◌+◌, ◌^◌, List, [], ℕ, length, take, OnOk, IfOk, false};
-ghost use Rattle.apsp_service.specs.Streams.{Streams, source_seen, sink_seen, streams};
+ghost use Rattle.network_replies.specs.Streams.{Streams, source_seen, sink_seen, streams};
 ghost use Rattle.apsp_service.specs.Session.{State, first_state};
 ghost use Rattle.apsp_service.specs.Standing.{HasStateAndContent, HasSomeStateAndContent, TakesPiece};
 ghost use Rattle.apsp_service.specs.Lawful.{IsLawfulState};
 ghost use Rattle.apsp_service.specs.Running.{SoFar, PieceEnds, with_faults_of, AllEnds, RunEnds, TakeEnds};
 
-use crate::blocks::Blocks;
-use crate::executor::Executor;
 use crate::session::Session;
-use crate::stop::Stop;
 use apsp_io::{Failed, Gate, Sink, Source};
+use network_replies::{Blocks, Executor, Stop};
 use std::alloc::Global;
 use std::marker::Sync;
 use std::thread::Threads;

@@ -2,30 +2,25 @@
 
 ghost use Rattle.std.specs.Prelude.{◌≡◌, Option, Some, None, ◌<◌, ◌≤◌, ◌+◌, ◌^◌, [], ◌∷◌, List, ℕ, length, take, IfOk, OnOk, IsTrue, ◌↔◌, false, string_bytes};
 ghost use Rattle.script_reader.specs.Answer.{MeaningIs, FitsContext};
-ghost use Rattle.apsp_service.specs.Streams.{sink_seen};
+ghost use Rattle.network_replies.specs.Streams.{sink_seen};
 ghost use Rattle.apsp_service.specs.Session.{State, first_state, context_at, context_of, accepted, counted, HasReply, HasBlockReply, after_line, after_lines, ending_of, has_refused};
 ghost use Rattle.script_reader.specs.Meaning.{line_of};
 ghost use Rattle.script_reader.specs.Input.{line_if_some};
 ghost use Rattle.apsp_service.specs.Giving.{HasInside, CanBeUpdated, TextGiven, IsRepliedBy, CertificateGiven, vertices_in, GivingEnds};
-ghost use Rattle.apsp_service.specs.Growing.{GrowsBy, LinesGiven};
+ghost use Rattle.network_replies.specs.Growing.{GrowsBy, LinesGiven};
 ghost use Rattle.graph_store.specs.Plan.{hi_of};
 ghost use Rattle.history_engine.specs.Seen.{EngineSeen};
 ghost use Rattle.std.specs.List.{flat_map};
-ghost use Rattle.apsp_service.specs.Blocks.{last_graph};
-ghost use Rattle.apsp_service.specs.Replies.{answer_text};
+ghost use Rattle.network_replies.specs.Blocks.{last_graph};
+ghost use Rattle.network_replies.specs.Replies.{answer_text};
 ghost use Rattle.apsp_service.specs.Standing.{HasState, HasStateAndContent, HasSomeStateAndContent, TakesFront, TakesPiece};
 ghost use Rattle.script_reader.specs.Cutter.{StandsFor};
 ghost use Rattle.apsp_model.specs.declared.TheConstants.{MOST_VERTICES, MOST_UPDATES};
 
-use crate::block::OpenBlock;
-use crate::blocks::Blocks;
-use crate::executor::Executor;
-use crate::network::Network;
-use crate::replies::{put_answer, put_error};
-use crate::stop::Stop;
 use apsp_io::{Gate, GiveError, Sink};
 use apsp_model::Memory;
 use block_run::{Answer, BlockAnswers};
+use network_replies::{Blocks, Executor, Network, OpenBlock, Stop, put_answer, put_error};
 use script_reader::code::{OPEN_BLOCK, TOO_LONG};
 use script_reader::{Context, Line, LineCutter, LineError, read_line};
 use std::alloc::{AllocError, Global};

@@ -1,7 +1,7 @@
 use Rattle.std.proofs.Common.{List, ℕ, subst}
 use Rattle.std.specs.Prelude.{Ok, string_bytes}
 use Rattle.apsp_service.specs.Check.{IsChecked}
-use Rattle.apsp_service.specs.Streams.{source_seen, sink_seen, streams}
+use Rattle.network_replies.specs.Streams.{source_seen, sink_seen, streams}
 use Rattle.apsp_service.specs.Outcome.{status_after}
 use Rattle.apsp_service.proofs.Checking.{check_stops, check_without_memory, check_given, checked_to_end}
 use Rattle.apsp_service.proofs.check.check_input.Goals as goal

@@ -1,5 +1,5 @@
 use Rattle.std.proofs.Common.{rules, ◌≡◌, [], length, ap, arith}
-use Rattle.apsp_service.specs.Streams.{source_seen}
+use Rattle.network_replies.specs.Streams.{source_seen}
 use Rattle.apsp_service.proofs.Checking.{all_stops, more_taken, consumes_none}
 use Rattle.apsp_service.proofs.check.take_all.Goals as goal
 

@@ -1,4 +1,4 @@
-use Rattle.apsp_service.specs.Streams.{source_seen}
+use Rattle.network_replies.specs.Streams.{source_seen}
 use Rattle.apsp_service.proofs.Outcomes.{run_over, run_ends}
 use Rattle.apsp_service.proofs.entry.run_as.Goals as goal
 

@@ -1,7 +1,7 @@
 use Rattle.std.proofs.Common.{List, ℕ, ◌++◌, ap, ◌∙◌}
 use Rattle.std.specs.Prelude.{string_bytes}
 use Rattle.apsp_service.specs.Load.{load_text}
-use Rattle.apsp_service.specs.Streams.{sink_seen}
+use Rattle.network_replies.specs.Streams.{sink_seen}
 use Rattle.apsp_service.proofs.LoadEnds.{load_memory, load_stops, load_done, memory_end, given_end}
 use Rattle.apsp_service.proofs.load.load.Goals as goal
 

@@ -1,8 +1,8 @@
 use Rattle.std.proofs.Common.{List, ℕ, refl, subst}
 use Rattle.std.specs.Prelude.{Some, None, OnOk, string_bytes}
 use Rattle.script_reader.specs.declared.Line.TheVariants as line
-use Rattle.apsp_service.specs.Age.{IsAgeReply}
-use Rattle.apsp_service.specs.Growing.{GrowsBy}
+use Rattle.network_replies.specs.Age.{IsAgeReply}
+use Rattle.network_replies.specs.Growing.{GrowsBy}
 use Rattle.apsp_service.specs.Session.{HasReply}
 use Rattle.apsp_service.proofs.Standing.{updated_outside, edge_outside, asked_outside, counted_inside, lawful_at, of_network, grows_by_none}
 use Rattle.apsp_service.proofs.session.execute_outside_block.Goals as goal

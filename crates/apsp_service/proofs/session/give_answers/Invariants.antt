@@ -1,7 +1,7 @@
 use Rattle.std.proofs.Common.{◌≤◌, take}
 use Rattle.std.specs.List.{flat_map}
 use Rattle.std.specs.Io.KnownBytes.{Appends}
-use Rattle.apsp_service.specs.Replies.{answer_text}
+use Rattle.network_replies.specs.Replies.{answer_text}
 use Rattle.apsp_service.proofs.session.give_answers.Given as goal
 
 abbrev pub invariant-loop-answer : goal.invariant-loop-answer

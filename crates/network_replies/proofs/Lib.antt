@@ -1,0 +1,5 @@
+pub mod Rows
+pub mod Texts
+pub mod Plans
+pub mod Seen
+pub mod Written

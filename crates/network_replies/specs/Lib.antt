@@ -1,0 +1,12 @@
+pub mod Streams
+pub mod EdgeStar
+pub mod Distance
+pub mod Path
+pub mod Stats
+pub mod Age
+pub mod Certificate
+pub mod Replies
+pub mod Blocks
+pub mod BlockInside
+pub mod Growing
+pub mod NetworkInside

@@ -1,0 +1,8 @@
+-- What holds of the fields of a session's network. No public clause cites this module.
+use Rattle.std.specs.Prelude.{◌≡◌}
+use Rattle.network_replies.specs.declared.network.Network.TheInside.{Inside}
+
+-- there is room for a star, and for a version
+pub record HasRoomForAnswers (n : Inside) : Type 0 where
+  pub star : n.star.vertices ≡ n.engine.opening
+  pub version : n.version.graph.vertices ≡ n.engine.opening

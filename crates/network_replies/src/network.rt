@@ -1,0 +1,275 @@
+//! The network of a session: an engine, with a call for each command.
+
+ghost use Rattle.std.specs.Prelude.{◌≡◌, ◌≢◌, ◌<◌, ◌≤◌, ◌+◌, ◌++◌, All, IfOk, IsSome, List, [], OnErr, OnOk, Option, false, length, string_bytes, ℕ};
+ghost use Rattle.std.specs.Option.{ForSome};
+ghost use Rattle.std.specs.List.{flat_map};
+ghost use Rattle.apsp_model.specs.declared.TheConstants.{MOST_VERTICES, MOST_UPDATES};
+ghost use Rattle.apsp_model.specs.Command.{Command, Update};
+ghost use Rattle.apsp_model.specs.Least.{LeastIs};
+ghost use Rattle.graph_store.specs.Making.{IsVertexCount};
+ghost use Rattle.graph_store.specs.Edges.{IsWeight};
+ghost use Rattle.history_engine.specs.Advance.{Advance, Stands};
+ghost use Rattle.history_engine.specs.Answers.{IsSpentBy};
+ghost use Rattle.block_run.specs.Run.{CanRun, HasRun};
+ghost use Rattle.network_replies.specs.Age.{IsAgeReply};
+ghost use Rattle.network_replies.specs.Distance.{IsDistance, AreDistances, IsDistReply, IsRowReply};
+ghost use Rattle.network_replies.specs.Certificate.{IsTextOf, version_of};
+ghost use Rattle.network_replies.specs.Growing.{GrowsBy, LinesGiven};
+ghost use Rattle.network_replies.specs.Path.{IsPathReply};
+ghost use Rattle.network_replies.specs.Replies.{entry_text, walk_text};
+ghost use Rattle.network_replies.specs.EdgeStar.{star_with};
+ghost use Rattle.network_replies.specs.Streams.{sink_seen};
+ghost use Rattle.network_replies.specs.Stats.{IsStatsReply};
+
+use crate::block::OpenBlock;
+use crate::blocks::Blocks;
+use crate::executor::Executor;
+use crate::replies::{put_age, put_dist, put_entry, put_stats, put_walk};
+use crate::stop::{Stop, given};
+use apsp_io::{Gate, Sink};
+use block_run::BlockAnswers;
+use certificate::write_certificate;
+use graph_store::{Graph, Star};
+use history_engine::Engine;
+use std::alloc::{AllocError, Global};
+use std::fmt::Write;
+use std::marker::{Model, Sync};
+use std::thread::Threads;
+use version_face::Version;
+
+/// The network that the line `vertices` makes, which each later command of a session asks or changes. It
+/// is seen as its engine, and has room for the star that `edge` and `cut` make and for the version that
+/// `cert` writes, so that they take no memory for them.
+///
+/// An update for which memory ran out leaves the network spent, and then no question may be put. A reply
+/// is put behind a text as one line, of which nothing is said where memory ran out.
+#[derive(Drop)]
+pub struct Network {
+    engine: Engine,
+    star: Star,
+    version: Version,
+}
+
+impl Model for Network {
+    ghost use Rattle.history_engine.specs.Seen.{EngineSeen, engine_seen_code};
+    ghost use Rattle.network_replies.specs.NetworkInside.{HasRoomForAnswers};
+
+    ghost Value = { EngineSeen };
+
+    ghost coded = { engine_seen_code };
+
+    ghost view = { λ n. n.engine };
+
+    ghost invariant = { HasRoomForAnswers };
+}
+
+impl Network {
+    /// So many vertices and no edges, with smoothing or without it.
+    pub fn new(alloc: Global, vertices: u32, smooth: bool) -> Result<Network, AllocError>
+        requires { IsVertexCount vertices }
+        ensures opening { IfOk result (λ n. n.opening ≡ vertices) }
+        ensures smooth { IfOk result (λ n. n.smooth ≡ smooth) }
+        ensures stands { IfOk result (λ n. Stands n []) }
+    {
+        Ok(Network {
+            engine: Engine::new(alloc, vertices, smooth).map_err(|_| AllocError)?,
+            star: Star::new(alloc, vertices, 0).map_err(|_| AllocError)?,
+            version: Version::new(alloc, vertices).map_err(|_| AllocError)?,
+        })
+    }
+
+    /// The number of vertices.
+    pub fn vertices(&self) -> u32
+        ensures vertices { result ≡ self.now.opening }
+        ensures most { result ≤ MOST_VERTICES }
+    {
+        self.engine.vertices()
+    }
+
+    /// Whether memory ran out in an update.
+    pub fn is_spent(&self) -> bool
+        ensures { result ≡ self.now.spent }
+    {
+        self.engine.is_spent()
+    }
+
+    /// Replaces the star of a vertex.
+    pub fn apply<R: Threads + Sync, G: Gate, B: Blocks>(
+        &mut self,
+        executor: &Executor<'_, R, G, B>,
+        star: &Star,
+    ) -> Result<(), AllocError>
+        requires same { star.now.vertices ≡ self.old.opening }
+        requires few { length self.old.vertices < MOST_UPDATES }
+        ensures made { OnOk result (Advance self.old (Update star.now) self.new) }
+        ensures spent { OnErr result (IsSpentBy self.old self.new) }
+    {
+        executor.update(&mut self.engine, star)
+    }
+
+    /// Gives u the star that it has, with the edge to v of this weight or without it.
+    pub fn put_edge<R: Threads + Sync, G: Gate, B: Blocks>(
+        &mut self,
+        executor: &Executor<'_, R, G, B>,
+        u: u32,
+        v: u32,
+        weight: Option<u32>,
+    ) -> Result<(), AllocError>
+        requires from { u < self.old.opening }
+        requires to { v < self.old.opening }
+        requires apart { u ≢ v }
+        requires weight { ForSome weight IsWeight }
+        requires few { length self.old.vertices < MOST_UPDATES }
+        ensures made { OnOk result (Advance self.old (Update (star_with self.old.graph u v weight)) self.new) }
+        ensures spent { OnErr result (IsSpentBy self.old self.new) }
+    {
+        self.engine.graph().star_into(u, &mut self.star);
+        self.star.put_out(v, weight);
+        executor.update(&mut self.engine, &self.star)
+    }
+
+    /// The graph.
+    pub fn graph(&self) -> &Graph
+        ensures { result.now ≡ self.now.graph }
+    {
+        self.engine.graph()
+    }
+
+    /// The number of updates.
+    pub fn number(&self) -> u64
+        ensures { result ≡ length self.now.vertices }
+    {
+        self.engine.number()
+    }
+
+    /// Runs a block: its updates are made, and its questions are answered meanwhile.
+    pub fn run_block<R: Threads + Sync, G: Gate, B: Blocks>(
+        &mut self,
+        executor: &Executor<'_, R, G, B>,
+        block: &OpenBlock,
+    ) -> Result<BlockAnswers, AllocError>
+        requires live { IsSome (B.readers executor.now.blocks.now) }
+        requires ready { B.ready executor.now.blocks.now }
+        requires can { CanRun self.old block.now.plan block.now.asks }
+        ensures { ForSome (B.readers executor.now.blocks.now) (λ r.
+            HasRun r self.old block.now.plan block.now.asks result self.new) }
+    {
+        executor.run_block(&mut self.engine, block)
+    }
+
+    /// Puts the reply to `dist` behind the text.
+    pub fn put_dist(&self, text: &mut String, x: u32, y: u32) -> Result<(), AllocError>
+        requires not_spent { self.now.spent ≡ false }
+        requires from { x < self.now.opening }
+        requires to { y < self.now.opening }
+        ensures { OnOk result
+            (GrowsBy (IsDistReply self.now.graph x y) (string_bytes text.old) (string_bytes text.new)) }
+    {
+        let distance = self.distance(x, y);
+        put_dist(text, x, y, distance)
+    }
+
+    /// Puts the reply to `row` behind the text.
+    pub fn put_row(&self, text: &mut String, x: u32) -> Result<(), AllocError>
+        requires not_spent { self.now.spent ≡ false }
+        requires inside { x < self.now.opening }
+        ensures { OnOk result (GrowsBy (IsRowReply self.now.graph x) (string_bytes text.old) (string_bytes text.new)) }
+    {
+        write!(text, "row {x}")?;
+        self.put_distances(text, x)?;
+        text.push('\n')
+    }
+
+    /// Puts the distance from x to each vertex behind the text.
+    fn put_distances(&self, text: &mut String, x: u32) -> Result<(), AllocError>
+        requires not_spent { self.now.spent ≡ false }
+        requires inside { x < self.now.opening }
+        ensures { OnOk result ((row : List (Option ℕ)) × AreDistances self.now.graph x row
+            × (string_bytes text.new ≡ string_bytes text.old ++ flat_map entry_text row)) }
+    {
+        for y in 0..self.engine.graph().vertices() {
+            let distance = self.distance(x, y);
+            put_entry(text, distance)?;
+        }
+        Ok(())
+    }
+
+    /// What the least walk from x to y weighs.
+    fn distance(&self, x: u32, y: u32) -> Option<u64>
+        requires not_spent { self.now.spent ≡ false }
+        requires from { x < self.now.opening }
+        requires to { y < self.now.opening }
+        ensures { IsDistance self.now.graph x y result }
+    {
+        match self.engine.least(x, y) {
+            Some(least) => Some(least.weight()),
+            None => None,
+        }
+    }
+
+    /// Puts the reply to `path` behind the text.
+    pub fn put_path(&self, text: &mut String, x: u32, y: u32) -> Result<(), AllocError>
+        requires not_spent { self.now.spent ≡ false }
+        requires from { x < self.now.opening }
+        requires to { y < self.now.opening }
+        ensures { OnOk result
+            (GrowsBy (IsPathReply self.now.graph x y) (string_bytes text.old) (string_bytes text.new)) }
+    {
+        write!(text, "path {x} {y}")?;
+        self.put_least(text, x, y)?;
+        text.push('\n')
+    }
+
+    /// Puts the least walk from x to y behind the text, or `none`.
+    fn put_least(&self, text: &mut String, x: u32, y: u32) -> Result<(), AllocError>
+        requires not_spent { self.now.spent ≡ false }
+        requires from { x < self.now.opening }
+        requires to { y < self.now.opening }
+        ensures { OnOk result ((walk : Option (List ℕ)) × LeastIs self.now.graph x y walk
+            × (string_bytes text.new ≡ string_bytes text.old ++ walk_text self.now.graph walk)) }
+    {
+        match self.engine.least(x, y) {
+            Some(least) => put_walk(text, &least),
+            None => text.push_str(" none"),
+        }
+    }
+
+    /// Puts the reply to `stats` behind the text.
+    pub fn put_stats(&self, text: &mut String) -> Result<(), AllocError>
+        requires { self.now.spent ≡ false }
+        ensures { (commands : List Command) → Stands self.now commands
+            → OnOk result
+            (GrowsBy (IsStatsReply self.now.opening self.now.smooth commands) (string_bytes text.old)
+            (string_bytes text.new)) }
+    {
+        put_stats(text, self.engine.counts())
+    }
+
+    /// Puts the reply to `age` behind the text.
+    pub fn put_age(&self, text: &mut String, list: &[u32]) -> Result<(), AllocError>
+        requires not_spent { self.now.spent ≡ false }
+        requires some { 0 < length list.now }
+        requires inside { All (λ v. v < self.now.opening) list.now }
+        ensures { (commands : List Command) → Stands self.now commands
+            → OnOk result
+            (GrowsBy (IsAgeReply self.now.opening self.now.smooth commands list.now) (string_bytes text.old)
+            (string_bytes text.new)) }
+    {
+        put_age(text, list, self.engine.birth(list))
+    }
+
+    /// Gives the sink the certificate of the present graph and number of updates, line by line. It takes
+    /// no memory of its own, and O(n²) looks. The network stays as it is.
+    pub fn give_certificate<K: Sink>(&mut self, sink: &mut K) -> Result<(), Stop>
+        requires not_spent { self.old.spent ≡ false }
+        requires few { length self.old.vertices < MOST_UPDATES }
+        ensures gives { (text : List ℕ) × IsTextOf (version_of self.old) text
+            × LinesGiven result (sink_seen K.Sink sink.old) (sink_seen K.Sink sink.new) text }
+        ensures same { self.new ≡ self.old }
+        ensures later { K.faults sink.old ≤ K.faults sink.new }
+    {
+        self.engine.graph_has_each_vertex();
+        self.engine.fill(&mut self.version);
+        given(write_certificate(&self.version, sink))
+    }
+}
