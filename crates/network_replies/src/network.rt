@@ -38,8 +38,8 @@ use std::thread::Threads;
 use version_face::Version;
 
 /// The network that the line `vertices` makes, which each later command of a session asks or changes. It
-/// is seen as its engine, and has room for the star that `edge` and `cut` make and for the version that
-/// `cert` writes, so that they take no memory for them.
+/// is seen as its engine, and has room for the star that `edge` and `cut` make, so that they take no
+/// memory for it. The room for the version that `cert` writes is made at the first certificate and kept.
 ///
 /// An update for which memory ran out leaves the network spent, and then no question may be put. A reply
 /// is put behind a text as one line, of which nothing is said where memory ran out.
@@ -47,7 +47,9 @@ use version_face::Version;
 pub struct Network {
     engine: Engine,
     star: Star,
-    version: Version,
+    alloc: Global,
+    // None before the first certificate.
+    version: Option<Version>,
 }
 
 impl Model for Network {
@@ -74,7 +76,8 @@ impl Network {
         Ok(Network {
             engine: Engine::new(alloc, vertices, smooth).map_err(|_| AllocError)?,
             star: Star::new(alloc, vertices, 0).map_err(|_| AllocError)?,
-            version: Version::new(alloc, vertices).map_err(|_| AllocError)?,
+            alloc,
+            version: None,
         })
     }
 
@@ -258,8 +261,8 @@ impl Network {
         put_age(text, list, self.engine.birth(list))
     }
 
-    /// Gives the sink the certificate of the present graph and number of updates, line by line. It takes
-    /// no memory of its own, and O(n²) looks. The network stays as it is.
+    /// Gives the sink the certificate of the present graph and number of updates, line by line, in O(n²)
+    /// looks. The first one takes memory for the version that it writes. The network stays as it is.
     pub fn give_certificate<K: Sink>(&mut self, sink: &mut K) -> Result<(), Stop>
         requires not_spent { self.old.spent ≡ false }
         requires few { length self.old.vertices < MOST_UPDATES }
@@ -268,8 +271,22 @@ impl Network {
         ensures same { self.new ≡ self.old }
         ensures later { K.faults sink.old ≤ K.faults sink.new }
     {
+        let mut version = self.take_version()?;
         self.engine.graph_has_each_vertex();
-        self.engine.fill(&mut self.version);
-        given(write_certificate(&self.version, sink))
+        self.engine.fill(&mut version);
+        let ended = given(write_certificate(&version, sink));
+        self.version = Some(version);
+        ended
+    }
+
+    /// The room for a version. It is made where there is none yet.
+    fn take_version(&mut self) -> Result<Version, AllocError>
+        ensures room { IfOk result (λ v. v.graph.vertices ≡ self.old.opening) }
+        ensures same { self.new ≡ self.old }
+    {
+        match self.version.take() {
+            Some(version) => Ok(version),
+            None => Version::new(self.alloc, self.engine.vertices()).map_err(|_| AllocError),
+        }
     }
 }
