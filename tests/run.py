@@ -12,8 +12,8 @@ The scripts of examples are cases too: examples/NAME.txt with NAME.out, run with
 users.py has further checks, of the wrapper, the documents, the clients and the examples.
 The certificate that each script leads to is checked by the program itself and by a second checker, and both are tried
 on a small certificate with each byte changed. What a script with blocks may be answered is judged by a referee
-(blocks.py), replies are compared at several numbers of workers (workers.py), and each allocation of some runs is
-refused (memory.py, where there is a C compiler).
+(blocks.py), replies are compared at several numbers of workers (workers.py), the memory of a long session is compared
+with that of a short one, and each allocation of some runs is refused (memory.py; the latter where there is a C compiler).
 """
 
 import blocks
@@ -153,7 +153,11 @@ def check_workers():
 
 
 def check_memory():
-    """Whether a run in which an allocation is refused gives a front of the usual output."""
+    """Whether a session keeps nothing that it no longer needs, and a run in which an allocation is refused gives a
+    front of the usual output."""
+    grown = memory.growth(PROGRAM)
+    if grown > memory.MOST_GROWTH:
+        yield f"a session that goes on takes {grown} KB more than a short one"
     if not memory.compiler():
         print("memory: skipped, since there is no C compiler")
         return
