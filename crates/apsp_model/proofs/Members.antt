@@ -4,7 +4,8 @@ use Rattle.std.proofs.Common.{arith, inl, inr}
 use Rattle.std.proofs.lemmas.List.Elements.{Contains-append_right, Contains-append_cases}
 use Rattle.apsp_model.specs.Walk.{IsOnceEach}
 
-at_cons : {A : Type 0} (x y : A) (p : List A) (k : ℕ) → k < length (y ∷ p) → get_or (y ∷ p) k x ≡ x → (y ≡ x) ⊎ Contains p x
+at_cons : {A : Type 0} (x y : A) (p : List A) (k : ℕ) → k < length (y ∷ p) → get_or (y ∷ p) k x ≡ x → (y ≡ x)
+    ⊎ Contains p x
 at_cons x y p zero l e = inl e
 at_cons x y p (suc k) l e = inr (k, omega arith, e)
 
@@ -25,7 +26,8 @@ pub tail_in : {A : Type 0} (x y : A) (p : List A) → Contains p x → Contains 
 tail_in x y p c = Contains-append_right (y ∷ []) p x c
 
 -- two lists without repetitions that have nothing in common, one behind the other
-pub once_append : {A : Type 0} (xs ys : List A) → IsOnceEach xs → IsOnceEach ys → ((x : A) → Contains xs x → Contains ys x → ⊥) → IsOnceEach (xs ++ ys)
+pub once_append : {A : Type 0} (xs ys : List A) → IsOnceEach xs → IsOnceEach ys
+    → ((x : A) → Contains xs x → Contains ys x → ⊥) → IsOnceEach (xs ++ ys)
 once_append [] ys a b apart = b
 once_append (x ∷ xs) ys a b apart = (
   λ c. elim (Contains-append_cases xs ys x c) [ inl left ↦ a.0 left | inr right ↦ apart x (head_in x x xs refl) right ],

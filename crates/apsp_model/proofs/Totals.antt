@@ -19,21 +19,33 @@ module _ {A : Type 0} (f : A → ℕ) where
   total-at (x ∷ xs) zero v e = let is : f x ≡ f v = ap f (some-injective x v e) in omega arith
   total-at (x ∷ xs) (suc i) v e = let r = total-at xs i v e in omega arith
 
-  total-none : (g : A → ℕ) (l : List A) → ((i : ℕ) (a : A) → get_elem? l i ≡ some a → f a ≡ 0 → g a ≡ 0) → total f l ≡ 0 → total g l ≡ 0
+  total-none : (g : A → ℕ) (l : List A) → ((i : ℕ) (a : A) → get_elem? l i ≡ some a → f a ≡ 0 → g a ≡ 0) → total f l ≡ 0
+      → total g l ≡ 0
   total-none g [] zeros e = refl
-  total-none g (y ∷ ys) zeros e = let a = zeros 0 y refl (omega arith) in let b = total-none g ys (λ i a. zeros (suc i) a) (omega arith) in omega arith
+  total-none g (y ∷ ys) zeros e =
+      let a = zeros 0 y refl (omega arith) in let b = total-none g ys (λ i a. zeros (suc i) a) (omega arith) in
+      omega arith
 
   -- where the place i has all of f, and g is 0 at each place where f is, the place has all of g
-  pub total-only : (g : A → ℕ) (l : List A) (i : ℕ) (v : A) → ((j : ℕ) (a : A) → get_elem? l j ≡ some a → f a ≡ 0 → g a ≡ 0) → get_elem? l i ≡ some v → total f l ≡ f v → total g l ≡ g v
+  pub total-only : (g : A → ℕ) (l : List A) (i : ℕ) (v : A)
+      → ((j : ℕ) (a : A) → get_elem? l j ≡ some a → f a ≡ 0 → g a ≡ 0) → get_elem? l i ≡ some v → total f l ≡ f v
+      → total g l ≡ g v
   total-only g [] i v zeros e all = absurd (some-ne-none v (sym e))
-  total-only g (x ∷ xs) zero v zeros e all = let is : f x ≡ f v = ap f (some-injective x v e) in let same : g x ≡ g v = ap g (some-injective x v e) in
+  total-only g (x ∷ xs) zero v zeros e all =
+      let is : f x ≡ f v = ap f (some-injective x v e) in let same : g x ≡ g v = ap g (some-injective x v e) in
       let none_left = total-none g xs (λ i a. zeros (suc i) a) (omega arith) in omega arith
-  total-only g (x ∷ xs) (suc i) v zeros e all = let at = total-at xs i v e in let a = zeros 0 x refl (omega arith) in let r = total-only g xs i v (λ j a. zeros (suc j) a) e (omega arith) in omega arith
+  total-only g (x ∷ xs) (suc i) v zeros e all =
+      let at = total-at xs i v e in let a = zeros 0 x refl (omega arith) in
+      let r = total-only g xs i v (λ j a. zeros (suc j) a) e (omega arith) in omega arith
 
   -- two places
-  pub total-two : (l : List A) (i j : ℕ) (v w : A) → get_elem? l i ≡ some v → get_elem? l j ≡ some w → ¬ (j ≡ i) → f v + f w ≤ total f l
+  pub total-two : (l : List A) (i j : ℕ) (v w : A) → get_elem? l i ≡ some v → get_elem? l j ≡ some w → ¬ (j ≡ i)
+      → f v + f w ≤ total f l
   total-two [] i j v w e g apart = absurd (some-ne-none v (sym e))
   total-two (x ∷ xs) zero zero v w e g apart = absurd (apart refl)
-  total-two (x ∷ xs) zero (suc j) v w e g apart = let is : f x ≡ f v = ap f (some-injective x v e) in let at = total-at xs j w g in omega arith
-  total-two (x ∷ xs) (suc i) zero v w e g apart = let is : f x ≡ f w = ap f (some-injective x w g) in let at = total-at xs i v e in omega arith
-  total-two (x ∷ xs) (suc i) (suc j) v w e g apart = let r = total-two xs i j v w e g (λ same. apart (ap suc same)) in omega arith
+  total-two (x ∷ xs) zero (suc j) v w e g apart =
+      let is : f x ≡ f v = ap f (some-injective x v e) in let at = total-at xs j w g in omega arith
+  total-two (x ∷ xs) (suc i) zero v w e g apart =
+      let is : f x ≡ f w = ap f (some-injective x w g) in let at = total-at xs i v e in omega arith
+  total-two (x ∷ xs) (suc i) (suc j) v w e g apart =
+      let r = total-two xs i j v w e g (λ same. apart (ap suc same)) in omega arith

@@ -7,6 +7,7 @@ pub mod Least
 pub mod Local
 pub mod Star
 pub mod Command
+pub mod Grows
 pub mod Kept
 pub mod Counts
 pub mod Stated

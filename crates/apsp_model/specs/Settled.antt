@@ -5,7 +5,7 @@ use Rattle.apsp_model.specs.Graph.{Graph}
 use Rattle.apsp_model.specs.Walk.{weight_of}
 use Rattle.apsp_model.specs.Part.{IsClosedUnderParts}
 use Rattle.apsp_model.specs.Least.{IsLeastWalk}
-use Rattle.apsp_model.specs.Local.{Avoids, IsLocal}
+use Rattle.apsp_model.specs.Local.{IsVertex, Avoids, IsLocal}
 use Rattle.apsp_model.specs.Star.{star_of}
 use Rattle.apsp_model.specs.Counts.{CountIs}
 use Rattle.apsp_model.specs.Paths.{KeptPath, IsKeptIn, IsHistoricalIn, HasBirthIn}
@@ -43,3 +43,9 @@ pub record IsSettled (g : Graph) (birth : ℕ) (before after : List KeptPath) (f
       ↔ (HasBirthIn before p b ⊎ (IsKeptIn after p × (IsKeptIn before p → ⊥) × (b ≡ birth)))
   pub formed_is : CountIs (λ p. IsKeptIn after p × (IsKeptIn before p → ⊥)) formed
   pub promoted_is : CountIs (λ p. IsHistoricalIn after p × (IsHistoricalIn before p → ⊥)) promoted
+
+-- the single vertices alone are kept, all of them historical and with birth 0: what settling of a whole graph starts from
+pub record AreSingles (n : ℕ) (paths : List KeptPath) : Type 0 where
+  pub kept : (p : List ℕ) → IsKeptIn paths p ↔ IsVertex n p
+  pub historical : (p : List ℕ) → IsHistoricalIn paths p ↔ IsVertex n p
+  pub births : (p : List ℕ) (b : ℕ) → HasBirthIn paths p b ↔ (IsVertex n p × (b ≡ 0))

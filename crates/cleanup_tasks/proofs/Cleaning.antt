@@ -13,7 +13,8 @@ use Rattle.path_book.proofs.Changes.{none_forgotten, kept_before, kept_still}
 use Rattle.path_book.proofs.Kept.{KeptAt, kept_at, live_is_kept}
 use Rattle.path_book.proofs.Readers.{single_or_edge, long_of_edge}
 
-pub all_cleaned : (old new : Book) (v : ℕ) (ids : List ℕ) → IsBook old → IsVictims old v ids → AreForgotten old new ids → IsCleaned v (kept_paths old) (kept_paths new)
+pub all_cleaned : (old new : Book) (v : ℕ) (ids : List ℕ) → IsBook old → IsVictims old v ids → AreForgotten old new ids
+    → IsCleaned v (kept_paths old) (kept_paths new)
 all_cleaned old new v ids was w f k = (
   λ kept. (
       let before = kept_before old new ids f k kept in
@@ -26,7 +27,8 @@ all_cleaned old new v ids was w f k = (
       let through : IsThrough old v at.id = (w.exact at.id).0 c in
       elim h.1 [
         | inl avoids ↦ avoids (subst (λ xs. Contains xs v) at.list through.1)
-        | inr one ↦ (let long : 1 < length (list_of old.arena at.id) = long_of_edge old.arena at.id was.arena through.0 in omega (arith, ap length at.list))
+        | inr one ↦ (let long : 1 < length (list_of old.arena at.id) = long_of_edge old.arena at.id was.arena through.0
+            in omega (arith, ap length at.list))
       ]
       )))
       ),
@@ -42,13 +44,16 @@ all_cleaned old new v ids was w f k = (
     ]
 
 -- where there are none nothing changes
-pub none_cleaned : (b : Book) (v : ℕ) (ids : List ℕ) → IsBook b → IsVictims b v ids → ids ≡ [] → IsCleaned v (kept_paths b) (kept_paths b)
+pub none_cleaned : (b : Book) (v : ℕ) (ids : List ℕ) → IsBook b → IsVictims b v ids → ids ≡ []
+    → IsCleaned v (kept_paths b) (kept_paths b)
 none_cleaned b v ids was w none = all_cleaned b b v [] was (subst (IsVictims b v) none w) (none_forgotten b)
 
 -- the vertex of a path is one of the book
-pub vertex_inside : (b : Book) (v : ℕ) (ids : List ℕ) → IsBook b → IsVictims b v ids → 0 < length ids → v < b.arena.vertices
+pub vertex_inside : (b : Book) (v : ℕ) (ids : List ℕ) → IsBook b → IsVictims b v ids → 0 < length ids
+    → v < b.arena.vertices
 vertex_inside b v [] was w some = absurd (omega arith)
 vertex_inside b v (id ∷ ids) was w some =
     let through : IsThrough b v id = (w.exact id).0 (head_in id id ids refl) in
     let p = live_path b.arena id (live_from_edge b.arena id was.arena through.0) in
-    (was.arena.paths id p.0 p.1).inside v (subst (λ xs. Contains xs v) (ap (λ q. q.list) (path_of_at b.arena id p.0 p.1)) through.1)
+    (was.arena.paths id p.0 p.1).inside v
+    (subst (λ xs. Contains xs v) (ap (λ q. q.list) (path_of_at b.arena id p.0 p.1)) through.1)

@@ -1,4 +1,9 @@
 pub mod Parents
 pub mod Levels
 pub mod Cleaning
+pub mod Refreshing
+pub mod InPlace
+pub mod Steps
+pub mod Refreshed
+pub mod Counted
 pub mod Under

@@ -32,7 +32,9 @@ PassesThrough b v id = IsLive b.arena id × Contains (list_of b.arena id) v
 
 -- q is the child of p: p is q without its last vertex where q starts at v, and without its first vertex otherwise
 abbrev pub IsExtensionFrom : Book → ℕ → ℕ → ℕ → Type 0
-IsExtensionFrom b v p q = ((starts_at b v q ≡ true) × (left_of b.arena q ≡ Some p)) ⊎ ((starts_at b v q ≡ false) × (right_of b.arena q ≡ Some p))
+IsExtensionFrom b v p q =
+    ((starts_at b v q ≡ true) × (left_of b.arena q ≡ Some p))
+    ⊎ ((starts_at b v q ≡ false) × (right_of b.arena q ≡ Some p))
 
 module _ (b : Book) (was : IsBook b) where
   pub simple_list : (id : ℕ) → IsLive b.arena id → IsSimple (list_of b.arena id)
@@ -43,26 +45,37 @@ module _ (b : Book) (was : IsBook b) where
   -- the children of a path that passes v are those that the walk puts behind it
   pub longer_exact : (v p q : ℕ) → PassesThrough b v p → Contains (longer_of b v p) q ↔ IsExtensionFrom b v p q
   longer_exact v p q passes = (
-    λ c. elim (Contains-append_cases (sides_at b.lists p).left (if starts_at b v p then (sides_at b.lists p).right else []) q c) [
-      | inl in_front ↦ inr (in_front_starts_not ((was.extensions.left p q).0 in_front), (was.extensions.left p q).0 in_front)
-      | inr behind ↦ elim (cases_Bool (starts_at b v p)) [
-        | inl at_v ↦
-            let c2 : Contains (sides_at b.lists p).right q = subst (λ (t : Bool). Contains (if t then (sides_at b.lists p).right else []) q) at_v behind in
-            let left : left_of b.arena q ≡ Some p = (was.extensions.right p q).0 c2 in
-            inl (starts_on q left at_v, left)
-        | inr away ↦ absurd (in_nil q (subst (λ (t : Bool). Contains (if t then (sides_at b.lists p).right else []) q) away behind))
-      ]
-    ],
+    λ c. elim (Contains-append_cases (sides_at b.lists p).left
+        (if starts_at b v p then (sides_at b.lists p).right else []) q c) [
+          | inl in_front ↦ inr (
+            in_front_starts_not ((was.extensions.left p q).0 in_front),
+            (was.extensions.left p q).0
+                in_front,
+          )
+          | inr behind ↦ elim (cases_Bool (starts_at b v p)) [
+            | inl at_v ↦
+                let c2 : Contains (sides_at b.lists p).right q =
+                subst (λ (t : Bool). Contains (if t then (sides_at b.lists p).right else []) q) at_v behind in
+                let left : left_of b.arena q ≡ Some p = (was.extensions.right p q).0 c2 in
+                inl (starts_on q left at_v, left)
+            | inr away ↦ absurd (in_nil q
+                (subst (λ (t : Bool). Contains (if t then (sides_at b.lists p).right else []) q)
+                away behind))
+          ]
+        ],
     λ h. elim h [
       | inl behind ↦
           let at_v : starts_at b v p ≡ true = starts_before q behind.1 behind.0 in
           Contains-append_right (sides_at b.lists p).left (if starts_at b v p then (sides_at b.lists p).right else []) q
-          (subst (λ (t : Bool). Contains (if t then (sides_at b.lists p).right else []) q) (sym at_v) ((was.extensions.right p q).1 behind.1))
-      | inr in_front ↦ Contains-append_left (sides_at b.lists p).left (if starts_at b v p then (sides_at b.lists p).right else []) q ((was.extensions.left p q).1 in_front.1)
+          (subst (λ (t : Bool). Contains (if t then (sides_at b.lists p).right else []) q) (sym at_v)
+          ((was.extensions.right p q).1 behind.1))
+      | inr in_front ↦ Contains-append_left (sides_at b.lists p).left
+          (if starts_at b v p then (sides_at b.lists p).right else []) q ((was.extensions.left p q).1 in_front.1)
     ],
   )
     where
-      with_left : (q : ℕ) → left_of b.arena q ≡ Some p → Ends b.arena q × (list_of b.arena p ≡ left_part (list_of b.arena q))
+      with_left : (q : ℕ) → left_of b.arena q ≡ Some p → Ends b.arena q
+          × (list_of b.arena p ≡ left_part (list_of b.arena q))
       with_left q left =
           let e : Ends b.arena q = ends b.arena q was.arena (ap is_some left) in
           let same : e.left ≡ p = (let two : Some e.left ≡ Some p = sym e.left_is ∙ left in cc) in
@@ -71,13 +84,15 @@ module _ (b : Book) (was : IsBook b) where
       starts_on : (q : ℕ) → left_of b.arena q ≡ Some p → starts_at b v p ≡ true → starts_at b v q ≡ true
       starts_on q left at_v =
           let w = with_left q left in
-          let same : first (list_of b.arena p) ≡ first (list_of b.arena q) = ap first w.1 ∙ first_of_left (list_of b.arena q) w.0.long in
+          let same : first (list_of b.arena p) ≡ first (list_of b.arena q) =
+          ap first w.1 ∙ first_of_left (list_of b.arena q) w.0.long in
           begins_from (list_of b.arena q) v (sym same ∙ begins_true (list_of b.arena p) v at_v)
 
       starts_before : (q : ℕ) → left_of b.arena q ≡ Some p → starts_at b v q ≡ true → starts_at b v p ≡ true
       starts_before q left at_v =
           let w = with_left q left in
-          let same : first (list_of b.arena p) ≡ first (list_of b.arena q) = ap first w.1 ∙ first_of_left (list_of b.arena q) w.0.long in
+          let same : first (list_of b.arena p) ≡ first (list_of b.arena q) =
+          ap first w.1 ∙ first_of_left (list_of b.arena q) w.0.long in
           begins_from (list_of b.arena p) v (same ∙ begins_true (list_of b.arena q) v at_v)
 
       in_front_starts_not : right_of b.arena q ≡ Some p → starts_at b v q ≡ false
@@ -86,8 +101,10 @@ module _ (b : Book) (was : IsBook b) where
             let edge : HasAnEdge b.arena q = edge_of_right b.arena was.arena q p right in
             let e : Ends b.arena q = ends b.arena q was.arena edge in
             let same : e.right ≡ p = (let two : Some e.right ≡ Some p = sym e.right_is ∙ right in cc) in
-            let list : list_of b.arena p ≡ right_part (list_of b.arena q) = ap (list_of b.arena) (sym same) ∙ e.right_list in
-            absurd (first_alone (list_of b.arena q) v (simple_list q (live_from_edge b.arena q was.arena edge)) (subst (λ xs. Contains xs v) list passes.1) (begins_true (list_of b.arena q) v at_v))
+            let list : list_of b.arena p ≡ right_part (list_of b.arena q) =
+            ap (list_of b.arena) (sym same) ∙ e.right_list in
+            absurd (first_alone (list_of b.arena q) v (simple_list q (live_from_edge b.arena q was.arena edge))
+            (subst (λ xs. Contains xs v) list passes.1) (begins_true (list_of b.arena q) v at_v))
         | inr away ↦ away
       ]
 
@@ -111,7 +128,8 @@ module _ (b : Book) (was : IsBook b) where
         let edge : HasAnEdge b.arena q = edge_of_right b.arena was.arena q p in_front.1 in
         let e : Ends b.arena q = ends b.arena q was.arena edge in
         let same : e.right ≡ p = (let two : Some e.right ≡ Some p = sym e.right_is ∙ in_front.1 in cc) in
-        let list : list_of b.arena p ≡ right_part (list_of b.arena q) = ap (list_of b.arena) (sym same) ∙ e.right_list in
+        let list : list_of b.arena p ≡ right_part (list_of b.arena q) =
+        ap (list_of b.arena) (sym same) ∙ e.right_list in
         record {
           through = (edge, in_right (list_of b.arena q) v (subst (λ xs. Contains xs v) list passes.1));
           hops = hops_right b.arena q e ∙ ap (λ j. hops_at b j + 1) same;
@@ -129,12 +147,22 @@ module _ (b : Book) (was : IsBook b) where
     | inl at_v ↦ record {
       parent = e.left;
       is = inl (at_v, e.left_is);
-      passes = (e.left_live, subst (λ xs. Contains xs v) (sym e.left_list) (first_in (left_part (list_of b.arena q)) v (first_of_left (list_of b.arena q) e.long ∙ begins_true (list_of b.arena q) v at_v)));
+      passes = (
+        e.left_live,
+        subst (λ xs. Contains xs v) (sym e.left_list)
+            (first_in (left_part (list_of b.arena q)) v
+            (first_of_left (list_of b.arena q) e.long ∙ begins_true (list_of b.arena q) v at_v)),
+      );
     }
     | inr away ↦ record {
       parent = e.right;
       is = inr (away, e.right_is);
-      passes = (e.right_live, subst (λ xs. Contains xs v) (sym e.right_list) (to_right (list_of b.arena q) v (λ f. false≢true (sym away ∙ begins_from (list_of b.arena q) v f)) through.1));
+      passes = (
+        e.right_live,
+        subst (λ xs. Contains xs v) (sym e.right_list)
+            (to_right (list_of b.arena q) v (λ f. false≢true (sym away ∙ begins_from (list_of b.arena q) v f))
+            through.1),
+      );
     }
   ]
     where
@@ -153,22 +181,33 @@ module _ (b : Book) (was : IsBook b) where
   single_or_through v id passes = elim (single_or_edge b.arena id was.arena passes.0) [
     | inl one ↦
         let alone : Contains (one.0 ∷ []) v = subst (λ xs. Contains xs v) one.3 passes.1 in
-        inl (one.2 ∙ ap (vertex_of b.arena) (elim (in_cons v one.0 [] alone) [ inl same ↦ same | inr none ↦ absurd (in_nil v none) ]))
+        inl (one.2 ∙ ap (vertex_of b.arena)
+        (elim (in_cons v one.0 [] alone) [ inl same ↦ same | inr none ↦ absurd (in_nil v none) ]))
     | inr edge ↦ inr (edge, passes.1)
   ]
 
-  pub single_passes : (v : ℕ) → v < b.arena.vertices → PassesThrough b v (vertex_of b.arena v) × (hops_at b (vertex_of b.arena v) ≡ 0)
+  pub single_passes : (v : ℕ) → v < b.arena.vertices → PassesThrough b v (vertex_of b.arena v)
+      × (hops_at b (vertex_of b.arena v) ≡ 0)
   single_passes v l =
-      let of : list_of b.arena (vertex_of b.arena v) ≡ v ∷ [] = ap (λ p. p.list) (path_of_at b.arena (vertex_of b.arena v) (single v) (was.arena.singles v l)) in
-      ((live_from b.arena (vertex_of b.arena v) (single v) (was.arena.singles v l), subst (λ xs. Contains xs v) (sym of) (head_in v v [] refl)), omega (arith, ap length of))
+      let of : list_of b.arena (vertex_of b.arena v) ≡ v ∷ [] =
+      ap (λ p. p.list) (path_of_at b.arena (vertex_of b.arena v) (single v) (was.arena.singles v l)) in (
+        (
+          live_from b.arena (vertex_of b.arena v) (single v) (was.arena.singles v l),
+          subst (λ xs. Contains xs v) (sym of)
+              (head_in v v [] refl),
+        ),
+        omega (arith, ap length of),
+      )
 
   pub single_starts : (v : ℕ) → v < b.arena.vertices → starts_at b v (vertex_of b.arena v) ≡ true
   single_starts v l =
-      let of : list_of b.arena (vertex_of b.arena v) ≡ v ∷ [] = ap (λ p. p.list) (path_of_at b.arena (vertex_of b.arena v) (single v) (was.arena.singles v l)) in
+      let of : list_of b.arena (vertex_of b.arena v) ≡ v ∷ [] =
+      ap (λ p. p.list) (path_of_at b.arena (vertex_of b.arena v) (single v) (was.arena.singles v l)) in
       begins_from (list_of b.arena (vertex_of b.arena v)) v (ap first of)
 
   pub some_hops : (v id : ℕ) → IsThrough b v id → 1 ≤ hops_at b id
-  some_hops v id through = let long : 1 < length (list_of b.arena id) = long_of_edge b.arena id was.arena through.0 in omega arith
+  some_hops v id through =
+      let long : 1 < length (list_of b.arena id) = long_of_edge b.arena id was.arena through.0 in omega arith
 
   -- the two parts of a path differ
   pub ends_apart : (q id : ℕ) → left_of b.arena q ≡ Some id → right_of b.arena q ≡ Some id → ⊥
@@ -177,6 +216,7 @@ module _ (b : Book) (was : IsBook b) where
       let e : Ends b.arena q = ends b.arena q was.arena edge in
       let same_left : e.left ≡ id = (let two : Some e.left ≡ Some id = sym e.left_is ∙ left in cc) in
       let same_right : e.right ≡ id = (let two : Some e.right ≡ Some id = sym e.right_is ∙ right in cc) in
-      let parts : left_part (list_of b.arena q) ≡ right_part (list_of b.arena q) = sym e.left_list ∙ ap (list_of b.arena) (same_left ∙ sym same_right) ∙ e.right_list in
+      let parts : left_part (list_of b.arena q) ≡ right_part (list_of b.arena q) =
+      sym e.left_list ∙ ap (list_of b.arena) (same_left ∙ sym same_right) ∙ e.right_list in
       let long : 1 < length (list_of b.arena q) = e.long in
       ends_differ (list_of b.arena q) (omega arith) (simple_list q (live_from_edge b.arena q was.arena edge)) parts

@@ -1,3 +1,4 @@
 pub mod Victims
 pub mod Walk
 pub mod Under
+pub mod Refreshing

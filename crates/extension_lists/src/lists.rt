@@ -3,10 +3,10 @@
 ghost use Rattle.std.specs.Prelude.{◌≡◌, ◌≢◌, ℕ, ◌<◌, ◌≤◌, ◌+◌, ◌*◌, ◌^◌, [], ◌∷◌, ◌++◌, OnOk, OnErr, Contains, IsNone, length, vec_len};
 ghost use Rattle.std.specs.FinMap as map;
 ghost use Rattle.apsp_model.specs.Walk.{IsOnceEach};
-ghost use Rattle.extension_lists.specs.Known.{IsKnown, IsDropped, IsStarred, IsTakenFromLeft, IsTakenFromRight, StandsOnlyAt, added, change, no_sides, sides_at};
+ghost use Rattle.extension_lists.specs.Known.{IsKnown, IsDropped, IsStarred, IsUnstarred, IsTakenFromLeft, IsTakenFromRight, StandsOnlyAt, added, change, no_sides, sides_at};
 ghost use Rattle.extension_lists.specs.Slots.{IsCleared, IsSides, known_by};
 
-use crate::side::{star, take_back, take_out};
+use crate::side::{star, take_back, take_out, unstar};
 use apsp_model::Memory;
 use id_pool::Lists as Pool;
 use path_arena::PathId;
@@ -103,6 +103,18 @@ impl Lists {
         star(&mut self.pool, 2 * l.key() + 1, id);
         star(&mut self.pool, 2 * r.key(), id);
         Ok(())
+    }
+
+    /// Takes an id out of the historical right extensions of l and the historical left extensions of
+    /// r, in time of their numbers. It stays an extension of both.
+    #[inline(always)]
+    pub fn drop_star(&mut self, id: PathId, l: PathId, r: PathId)
+        requires known_l { IsKnown self.old l }
+        requires known_r { IsKnown self.old r }
+        ensures { IsUnstarred self.old self.new id l r }
+    {
+        unstar(&mut self.pool, 2 * l.key() + 1, id);
+        unstar(&mut self.pool, 2 * r.key(), id);
     }
 
     /// Takes an id out of the lists of l and r, in time of their lengths, and forgets it.

@@ -52,6 +52,20 @@ pub(crate) fn star(pool: &mut Pool, list: usize, id: PathId)
     pool.mark_at(list, place);
 }
 
+/// Takes the mark from an id, if it is marked.
+#[inline(always)]
+pub(crate) fn unstar(pool: &mut Pool, list: usize, id: PathId)
+    requires inside { list < length pool.old }
+    requires once { IsOnceEach (ids_at pool.old list) }
+    ensures only { IsChanged pool.old pool.new list }
+    ensures moved { IsPermutation (ids_at pool.old list) (ids_at pool.new list) }
+    ensures stars { IsWithout id (stars_at pool.old list) (stars_at pool.new list) }
+{
+    if let Some(place) = place_of(pool.marked_ids(list), id) {
+        pool.unmark_at(list, place);
+    }
+}
+
 /// Takes an id out, if it stands there.
 #[inline(always)]
 pub(crate) fn take_out(pool: &mut Pool, list: usize, id: PathId)

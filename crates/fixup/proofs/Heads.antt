@@ -17,15 +17,16 @@ use Rattle.weight_classes.specs.Classes.{Classes, Rank, ClassesFit, IsHeldWithRa
 use Rattle.weight_classes.proofs.Held.{pushed_held}
 use Rattle.fixup_math.specs.Settling.{HeldCoverKept, IsLeastKept as IsLeastKeptOf, SettlingInvariant}
 use Rattle.fixup_math.proofs.Firsts.{queued_at_start}
-use Rattle.fixup_math.proofs.Settling.{settling_starts}
-use Rattle.fixup_math.proofs.Start.{CleanedInvariant, IsEdgeAt, walk_back, vertex_of_one}
+use Rattle.fixup_math.proofs.Settling.{StartInvariant, settling_starts}
+use Rattle.fixup_math.proofs.Start.{vertex_of_one}
 use Rattle.fixup.proofs.Adding.{once_before, take_cases, take_old, take_new}
 use Rattle.fixup.proofs.Promoting.{least_kept}
 use Rattle.fixup.proofs.Starting.{single_marked}
 use Rattle.fixup.specs.Views.{HeldIn, Kept, Marked, WonIn}
 use Rattle.fixup.specs.Growth.{HeadsAreHeld, InvariantHolds, IsGrown, ExactlyTheseAreHeld}
 
-pub queueing_starts : (a : Arena) (c : Classes) → ClassesFit c a → ((u v : ℕ) → WonIn c u v → ⊥) → ((r : Rank) (id : ℕ) → IsHeldWithRank c r id → ⊥) → ExactlyTheseAreHeld a [] c
+pub queueing_starts : (a : Arena) (c : Classes) → ClassesFit c a → ((u v : ℕ) → WonIn c u v → ⊥)
+    → ((r : Rank) (id : ℕ) → IsHeldWithRank c r id → ⊥) → ExactlyTheseAreHeld a [] c
 queueing_starts a c fits none_won empty = record {
   fits = fits;
   none_won = none_won;
@@ -33,10 +34,17 @@ queueing_starts a c fits none_won empty = record {
 }
 
 -- one id more
-pub held_step : (a : Arena) (heads : List ℕ) (i id : ℕ) (c later : Classes) → ExactlyTheseAreHeld a (take i heads) c → i < length heads → id ≡ get_or heads i id → IsPushed c later a id → ClassesFit later a → ExactlyTheseAreHeld a (take (i + 1) heads) later
+pub held_step : (a : Arena) (heads : List ℕ) (i id : ℕ) (c later : Classes) → ExactlyTheseAreHeld a (take i heads) c
+    → i < length heads → id ≡ get_or heads i id → IsPushed c later a id → ClassesFit later a
+    → ExactlyTheseAreHeld a (take (i + 1) heads) later
 held_step a heads i id c later s inside at pushed fits = record {
   fits = fits;
-  none_won = λ u v w. s.none_won u v (subst (λ n. u < n) pushed.vertices w.0, subst (λ n. v < n) pushed.vertices w.1, won_before u v w.2);
+  none_won =
+      λ u v w. s.none_won u v (
+        subst (λ n. u < n) pushed.vertices w.0,
+        subst (λ n. v < n) pushed.vertices w.1,
+        won_before u v w.2,
+      );
   held = λ q. (
     λ h. elim ((pushed_held c later a id pushed h.0 q).0 h.1) [
       | inl old ↦ take_old heads i id inside at q ((s.held q).0 (h.0, old))
@@ -53,17 +61,22 @@ held_step a heads i id c later s inside at pushed fits = record {
     won_before u v w = (λ i. slice_index_or (sym pushed.won i) (u * (sym pushed.vertices i) + v) false) ∙ w
 
 -- it is not held yet
-pub head_fresh : (a : Arena) (heads : List ℕ) (i id : ℕ) (c : Classes) → IsOnceEach heads → ExactlyTheseAreHeld a (take i heads) c → i < length heads → id ≡ get_or heads i id → (r : Rank) → IsHeldWithRank c r id → ⊥
+pub head_fresh : (a : Arena) (heads : List ℕ) (i id : ℕ) (c : Classes) → IsOnceEach heads
+    → ExactlyTheseAreHeld a (take i heads) c → i < length heads → id ≡ get_or heads i id → (r : Rank)
+    → IsHeldWithRank c r id → ⊥
 head_fresh a heads i id c once s inside at r h = once_before heads i id once inside at ((s.held id).0 (r, h))
 
-pub held_ends : (a : Arena) (heads : List ℕ) (i : ℕ) (c : Classes) → length heads ≤ i → ExactlyTheseAreHeld a (take i heads) c → ExactlyTheseAreHeld a heads c
+pub held_ends : (a : Arena) (heads : List ℕ) (i : ℕ) (c : Classes) → length heads ≤ i
+    → ExactlyTheseAreHeld a (take i heads) c → ExactlyTheseAreHeld a heads c
 held_ends a heads i c past s = subst (λ ids. ExactlyTheseAreHeld a ids c) (take_all i heads past) s
 
 -- what the book lists is live
-pub heads_live : (b : Book) (n : ℕ) (ids : List ℕ) → ArePendingLeasts b n ids → (id : ℕ) → Contains ids id → IsLive b.arena id
+pub heads_live : (b : Book) (n : ℕ) (ids : List ℕ) → ArePendingLeasts b n ids → (id : ℕ) → Contains ids id
+    → IsLive b.arena id
 heads_live b n ids are id here = (are.only id here).4.0.live
 
-pub heads_queued : {T E : Type 0} (b : Book) (heads : List ℕ) (c : Classes) → ArePendingLeasts b b.arena.vertices heads → (r : Result T E) → OnOk r (ExactlyTheseAreHeld b.arena heads c) → OnOk r (HeadsAreHeld b c)
+pub heads_queued : {T E : Type 0} (b : Book) (heads : List ℕ) (c : Classes) → ArePendingLeasts b b.arena.vertices heads
+    → (r : Result T E) → OnOk r (ExactlyTheseAreHeld b.arena heads c) → OnOk r (HeadsAreHeld b c)
 heads_queued b heads c are (Ok t) s = record { heads = heads; are = are; queueing = s }
 heads_queued b heads c are (Err e) s = s
 
@@ -82,7 +95,8 @@ ends_inside g x y p w = (inside_walk g p w.walk x (first_in p x w.from), inside_
 same_end : (x y : ℕ) → Some x ≡ Some y → x ≡ y
 same_end x y e = cc
 
-pub settling_same : (g : Graph) (H0 H H1 K Q : List ℕ → Type 0) (Won : ℕ → ℕ → Type 0) → ((p : List ℕ) → H1 p ↔ H p) → SettlingInvariant g H0 H K Q Won → SettlingInvariant g H0 H1 K Q Won
+pub settling_same : (g : Graph) (H0 H H1 K Q : List ℕ → Type 0) (Won : ℕ → ℕ → Type 0) → ((p : List ℕ) → H1 p ↔ H p)
+    → SettlingInvariant g H0 H K Q Won → SettlingInvariant g H0 H1 K Q Won
 settling_same g H0 H H1 K Q Won marks s = record {
   closed = λ p q h part. (marks q).1 (s.closed p q ((marks p).0 h) part);
   singles = λ p h. (marks p).1 (s.singles p h);
@@ -109,18 +123,21 @@ settling_same g H0 H H1 K Q Won marks s = record {
     back p l = record { simple = l.simple; walk = l.walk; parts = λ q part. (marks q).0 (l.parts q part) }
 
 -- once all heads are held
-pub at_start : (g : Graph) (v birth : ℕ) (b0 b : Book) (c : Classes) → IsGrown g birth b0 b → b.marked ≡ b0.marked → ((id : ℕ) → IsMarked b0 id → list_of b.arena id ≡ list_of b0.arena id) → CleanedInvariant g v (Marked b0) (Kept b0) → ((p : List ℕ) → Kept b p ↔ (Kept b0 p ⊎ IsEdgeAt g v p)) → HeadsAreHeld b c → InvariantHolds g birth b0 b c
-at_start g v birth b0 b c grown marks lists cleaned formed s = record {
+pub at_start : (g : Graph) (birth : ℕ) (b0 b : Book) (c : Classes) → IsGrown g birth b0 b → b.marked ≡ b0.marked
+    → ((id : ℕ) → IsMarked b0 id → list_of b.arena id ≡ list_of b0.arena id) → StartInvariant g (Marked b0) (Kept b)
+    → HeadsAreHeld b c → InvariantHolds g birth b0 b c
+at_start g birth b0 b c grown marks lists start s = record {
   grown = grown;
   fits = s.queueing.fits;
   held_long = λ p h. long p h;
   settling = settling_same g (Marked b0) (Marked b0) (Marked b) (Kept b) (HeldIn b c) (WonIn c) marked_is
-      (settling_starts g v (Marked b0) (Kept b0) (Kept b) (HeldIn b c) (WonIn c) cleaned formed held_kept queued s.queueing.none_won);
+      (settling_starts g (Marked b0) (Kept b) (HeldIn b c) (WonIn c) start held_kept queued s.queueing.none_won);
 }
   where
     marked_is : (p : List ℕ) → Marked b p ↔ Marked b0 p
     marked_is p = (
-      λ h. let m : IsMarked b0 h.0 = ap (λ n. set.contains n h.0) (sym marks) ∙ h.1 in (h.0, m, sym (lists h.0 m) ∙ h.2),
+      λ h. let m : IsMarked b0 h.0 =
+          ap (λ n. set.contains n h.0) (sym marks) ∙ h.1 in (h.0, m, sym (lists h.0 m) ∙ h.2),
       λ h. (h.0, ap (λ n. set.contains n h.0) marks ∙ h.1, lists h.0 h.1 ∙ h.2),
     )
 
@@ -134,25 +151,34 @@ at_start g v birth b0 b c grown marks lists cleaned formed s = record {
     not_marked : (p : List ℕ) → HeldIn b c p → Marked b p → ⊥
     not_marked p h m =
         let d = (head_of p h).2 in
-        d.1 (subst (IsMarked b) (grown.lawful.once m.0 h.1 (grown.lawful.marked_live m.0 m.1) d.0.live (m.2 ∙ sym h.3)) m.1)
+        d.1 (subst (IsMarked b) (grown.lawful.once m.0 h.1 (grown.lawful.marked_live m.0 m.1) d.0.live (m.2 ∙ sym h.3))
+        m.1)
 
     walks : (p : List ℕ) → Kept b p → IsWalk g p
-    walks p k = elim ((formed p).0 k) [ inl old ↦ walk_back g v p ((cleaned.kept p).0 old).walk | inr edge ↦ edge.walk ]
+    walks p k = ((start.kept p).0 k).walk
 
     long : (p : List ℕ) → HeldIn b c p → 1 < length p
     long p h = elim (cases_lt 1 (length p)) [
       | inl more ↦ more
       | inr less ↦
           let single : IsVertex g.vertices p = vertex_of_one g p (walks p (held_kept p h)) (omega (arith, less)) in
-          absurd (not_marked p h (single_marked b grown.lawful p (single.0, subst (λ n. single.0 < n) (sym grown.vertices) single.1, single.2)))
+          absurd (not_marked p h (single_marked b grown.lawful p
+          (single.0, subst (λ n. single.0 < n) (sym grown.vertices) single.1, single.2)))
     ]
 
     -- a kept path of a pair has a least one
-    least_or_held : (x y : ℕ) (p : List ℕ) → Kept b p → IsWalkFrom g x y p → (HasNoPendingLeast b x y ⊎ ((id : ℕ) × IsPendingLeast b x y id × Contains s.heads id)) → (q : List ℕ) × IsLeastKeptOf g (Kept b) x y q × (HeldIn b c q ⊎ Marked b0 q)
+    least_or_held : (x y : ℕ) (p : List ℕ) → Kept b p → IsWalkFrom g x y p
+        → (HasNoPendingLeast b x y ⊎ ((id : ℕ) × IsPendingLeast b x y id × Contains s.heads id)) → (q : List ℕ)
+        × IsLeastKeptOf g (Kept b) x y q × (HeldIn b c q ⊎ Marked b0 q)
     least_or_held x y p k walk h = elim h [
       | inl settled ↦ elim settled [
         | inl none ↦ absurd (none k.0 k.1 (ap first k.2 ∙ walk.from, ap last k.2 ∙ walk.to))
-        | inr id ↦ (list_of b.arena id.0, least_kept g birth b0 b grown walks x y id.0 id.1, inr ((marked_is (list_of b.arena id.0)).0 (id.0, id.2, refl)))
+        | inr id ↦ (
+          list_of b.arena id.0,
+          least_kept g birth b0 b grown walks x y id.0 id.1,
+          inr
+              ((marked_is (list_of b.arena id.0)).0 (id.0, id.2, refl)),
+        )
       ]
       | inr id ↦
           let held = (s.queueing.held id.0).1 id.2 in
@@ -160,13 +186,15 @@ at_start g v birth b0 b c grown marks lists cleaned formed s = record {
     ]
 
     queued : HeldCoverKept g (Marked b0) (Kept b) (HeldIn b c) (WonIn c)
-    queued = queued_at_start g (Marked b0) (Kept b) (HeldIn b c) (WonIn c) (λ p h. (formed p).1 (inl (cleaned.marked_kept p h)))
+    queued = queued_at_start g (Marked b0) (Kept b) (HeldIn b c) (WonIn c) start.marked_kept
         (λ x y p k walk long.
         let e : (x < g.vertices) × (y < g.vertices) = ends_inside g x y p walk in
-        least_or_held x y p k walk (s.are.pairs x y (subst (λ n. x < n) (sym grown.vertices) e.0) (subst (λ n. y < n) (sym grown.vertices) e.1)))
+        least_or_held x y p k walk (s.are.pairs x y (subst (λ n. x < n) (sym grown.vertices) e.0)
+        (subst (λ n. y < n) (sym grown.vertices) e.1)))
         (λ x y q h walk.
         let d = head_of q h in
-        let l : IsLeastKeptOf g (Kept b) d.0 d.1 q = subst (IsLeastKeptOf g (Kept b) d.0 d.1) h.3 (least_kept g birth b0 b grown walks d.0 d.1 h.1 d.2.0) in
+        let l : IsLeastKeptOf g (Kept b) d.0 d.1 q =
+        subst (IsLeastKeptOf g (Kept b) d.0 d.1) h.3 (least_kept g birth b0 b grown walks d.0 d.1 h.1 d.2.0) in
         let from : d.0 ≡ x = same_end d.0 x (sym l.walk.from ∙ walk.from) in
         let to : d.1 ≡ y = same_end d.1 y (sym l.walk.to ∙ walk.to) in
         subst (λ n. IsLeastKeptOf g (Kept b) x n q) to (subst (λ n. IsLeastKeptOf g (Kept b) n d.1 q) from l))

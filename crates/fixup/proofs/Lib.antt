@@ -7,6 +7,7 @@ pub mod Adding
 pub mod Searching
 pub mod Pairing
 pub mod Starting
+pub mod Rows
 pub mod Heads
 pub mod Classing
 pub mod Ending

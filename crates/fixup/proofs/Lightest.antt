@@ -33,7 +33,8 @@ pub number_rises : (r s : Rank) → IsLower r s → r.hops < MOST_VERTICES → n
 unfolding number
 number_rises r s lower few = omega (arith, rises MOST_VERTICES r s lower few)
 
-pub number_most : (r : Rank) → r.weight ≤ MOST_VERTICES * MOST_WEIGHT → r.hops < MOST_VERTICES → number r + 1 ≤ above_all
+pub number_most : (r : Rank) → r.weight ≤ MOST_VERTICES * MOST_WEIGHT → r.hops < MOST_VERTICES
+    → number r + 1 ≤ above_all
 unfolding number above_all
 number_most r l few = below MOST_VERTICES (MOST_VERTICES * MOST_WEIGHT) r l few
 
@@ -48,7 +49,8 @@ lightest_upto (e ∷ hs) r id c = elim (in_cons e hs (r, id) c) [
   | inr more ↦ omega (arith, lightest_upto hs r id more)
 ]
 
-pub lightest_from : (hs : List (Rank × ℕ)) (k : ℕ) → k ≤ above_all → ((r : Rank) (id : ℕ) → Contains hs (r, id) → k ≤ number r) → k ≤ lightest hs
+pub lightest_from : (hs : List (Rank × ℕ)) (k : ℕ) → k ≤ above_all
+    → ((r : Rank) (id : ℕ) → Contains hs (r, id) → k ≤ number r) → k ≤ lightest hs
 lightest_from [] k most least = most
 lightest_from (e ∷ hs) k most least =
     let here : k ≤ number e.0 = least e.0 e.1 (head_there e hs) in
@@ -64,7 +66,8 @@ unfolding left_over
 left_over_is hs = refl
 
 -- what is not up to r is above it
-pub lower_by : (r s : Rank) (v h w k : ℕ) → ((v < w) ⊎ ((v ≡ w) × (h ≤ k)) → ⊥) → w ≡ r.weight → k ≡ r.hops → s.weight ≡ v → s.hops ≡ h → IsLower r s
+pub lower_by : (r s : Rank) (v h w k : ℕ) → ((v < w) ⊎ ((v ≡ w) × (h ≤ k)) → ⊥) → w ≡ r.weight → k ≡ r.hops
+    → s.weight ≡ v → s.hops ≡ h → IsLower r s
 lower_by r s v h w k not_upto a b c d = elim (cases_lt w v) [
   | inl less ↦ inl (omega (arith, less, a, c))
   | inr upto ↦ elim (cases_lt v w) [

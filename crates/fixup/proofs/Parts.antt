@@ -1,4 +1,5 @@
--- The parts of a path with an edge, and that such a path does not follow itself. Serves `promote_class` and `keep_joins`.
+-- The parts of a path with an edge, and that such a path does not follow itself. Serves `promote_class` and
+-- `keep_joins`.
 use Rattle.std.specs.Prelude.{◌≡◌, ℕ, ◌<◌, List, length, Some, None, is_some, Contains}
 use Rattle.std.proofs.Common.{sym, ◌∙◌, ap, subst, arith, inl, inr}
 use Rattle.apsp_model.specs.Walk.{IsSimple}
@@ -65,7 +66,8 @@ parts_of a id lawful edge =
     }
 
 -- two paths that meet overlap in all but their ends
-pub meets_in : (a : Arena) (l r : ℕ) → IsArena a → HasAnEdge a l → HasAnEdge a r → right_of a l ≡ left_of a r → right_part (list_of a l) ≡ left_part (list_of a r)
+pub meets_in : (a : Arena) (l r : ℕ) → IsArena a → HasAnEdge a l → HasAnEdge a r → right_of a l ≡ left_of a r
+    → right_part (list_of a l) ≡ left_part (list_of a r)
 meets_in a l r lawful edge_l edge_r meets =
     let p : Parts a l = parts_of a l lawful edge_l in
     let q : Parts a r = parts_of a r lawful edge_r in

@@ -37,7 +37,8 @@ module _ (b : Book) (id : ℕ) (q : Path) (fresh : path_at b.arena id ≡ None) 
   kept_with p = (
     λ h. elim (cases_eq h.0 id) [
       | inl new ↦ inr (sym h.2 ∙ ap (list_of (with_kept b id q).arena) new ∙ list_new)
-      | inr old ↦ let live : IsLive b.arena h.0 = ap is_some (sym (path_other h.0 old)) ∙ h.1 in inl (h.0, live, sym (list_still h.0 live) ∙ h.2)
+      | inr old ↦ let live : IsLive b.arena h.0 =
+          ap is_some (sym (path_other h.0 old)) ∙ h.1 in inl (h.0, live, sym (list_still h.0 live) ∙ h.2)
     ],
     λ h. elim h [
       | inl old ↦ (old.0, live_still old.0 old.1, list_still old.0 old.1 ∙ old.2)
@@ -51,7 +52,8 @@ module _ (b : Book) (id : ℕ) (q : Path) (fresh : path_at b.arena id ≡ None) 
     λ h. let live : IsLive b.arena h.0 = lawful.marked_live h.0 h.1 in (h.0, h.1, list_still h.0 live ∙ h.2),
   )
 
-  pub held_with : (c : Classes) → ((r : Rank) (k : ℕ) → IsHeldWithRank c r k → IsLive b.arena k) → (p : List ℕ) → HeldIn (with_kept b id q) c p ↔ HeldIn b c p
+  pub held_with : (c : Classes) → ((r : Rank) (k : ℕ) → IsHeldWithRank c r k → IsLive b.arena k) → (p : List ℕ)
+      → HeldIn (with_kept b id q) c p ↔ HeldIn b c p
   held_with c live p = (
     λ h. (h.0, h.1, h.2, sym (list_still h.1 (live h.0 h.1 h.2)) ∙ h.3),
     λ h. (h.0, h.1, h.2, list_still h.1 (live h.0 h.1 h.2) ∙ h.3),
@@ -60,7 +62,8 @@ module _ (b : Book) (id : ℕ) (q : Path) (fresh : path_at b.arena id ≡ None) 
 -- ---- a path that is marked
 
 module _ (b : Book) (id : ℕ) where
-  contains_is : (k : ℕ) → set.contains (with_mark b id b.lists).marked k ≡ (eq_by_cmp nat_cmp k id || set.contains b.marked k)
+  contains_is : (k : ℕ) → set.contains (with_mark b id b.lists).marked k ≡
+      (eq_by_cmp nat_cmp k id || set.contains b.marked k)
   contains_is k = set.contains-insert nat_cmp_total b.marked id k
 
   pub mark_new : IsMarked (with_mark b id b.lists) id
@@ -80,6 +83,10 @@ module _ (b : Book) (id : ℕ) where
 
   pub marked_then : (p : List ℕ) → Marked (with_mark b id b.lists) p ↔ (Marked b p ⊎ (p ≡ list_of b.arena id))
   marked_then p = (
-    λ h. elim (mark_cases h.0 h.1) [ inl old ↦ inl (h.0, old, h.2) | inr new ↦ inr (sym h.2 ∙ ap (list_of b.arena) new) ],
+    λ h. elim (mark_cases h.0 h.1) [
+      | inl old ↦ inl (h.0, old, h.2)
+      | inr new ↦
+          inr (sym h.2 ∙ ap (list_of b.arena) new)
+    ],
     λ h. elim h [ inl old ↦ (old.0, mark_still old.0 old.1, old.2) | inr new ↦ (id, mark_new, sym new) ],
   )

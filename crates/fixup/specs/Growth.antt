@@ -35,6 +35,17 @@ pub record EdgesAreFormed (g : Graph) (v birth : ℕ) (b0 : Book) (i j : ℕ) (b
   pub marks : b.marked ≡ b0.marked
   pub kept : (p : List ℕ) → Kept b p ↔ (Kept b0 p ⊎ EdgesBy g v i j p)
 
+-- the edges of the pairs that stand before that of x and y, row by row
+abbrev pub EdgesBefore : Graph → ℕ → ℕ → List ℕ → Type 0
+EdgesBefore g x y p =
+    (u : ℕ) × (v : ℕ) × ((u < x) ⊎ ((u ≡ x) × (v < y))) × HasEdge g u v × (p ≡ u ∷ v ∷ [])
+
+-- .. these are formed by now
+pub record RowsAreFormed (g : Graph) (birth : ℕ) (b0 : Book) (x y : ℕ) (b : Book) : Type 0 where
+  pub grown : IsGrown g birth b0 b
+  pub marks : b.marked ≡ b0.marked
+  pub kept : (p : List ℕ) → Kept b p ↔ (Kept b0 p ⊎ EdgesBefore g x y p)
+
 -- these ids are held by now, and nothing else is
 pub record ExactlyTheseAreHeld (a : Arena) (ids : List ℕ) (c : Classes) : Type 0 where
   pub fits : ClassesFit c a

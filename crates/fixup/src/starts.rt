@@ -2,12 +2,12 @@
 
 ghost use Rattle.std.specs.Prelude.{◌≡◌, ℕ, ◌<◌, ◌∷◌, [], Some, OnOk, OnErr, Contains};
 ghost use Rattle.apsp_model.specs.Graph.{weight_at};
-ghost use Rattle.apsp_model.specs.Settled.{IsReady};
+ghost use Rattle.apsp_model.specs.Settled.{IsReady, AreSingles};
 ghost use Rattle.apsp_model.specs.Walk.{IsOnceEach};
 ghost use Rattle.path_arena.specs.Arena.{IsLive};
 ghost use Rattle.path_book.specs.Book.{IsBook, IsNewList, kept_paths};
 ghost use Rattle.fixup.specs.Starts.{IsEdgeFormed};
-ghost use Rattle.fixup.specs.Growth.{HeadsAreHeld, EdgesAreFormed, ExactlyTheseAreHeld};
+ghost use Rattle.fixup.specs.Growth.{HeadsAreHeld, EdgesAreFormed, RowsAreFormed, ExactlyTheseAreHeld};
 
 use apsp_model::Memory;
 use graph_store::Graph;
@@ -30,6 +30,23 @@ pub(crate) fn form_edges(book: &mut Book, graph: &Graph, v: u32, birth: u64) -> 
     'edges: for u in 0..n {
         form_edge(book, graph, v, u, birth)?;
         form_edge(book, graph, u, v, birth)?;
+    }
+    Ok(())
+}
+
+/// Keeps all edges of the graph, row by row, in a book that keeps the single vertices alone.
+pub(crate) fn form_rows(book: &mut Book, graph: &Graph, birth: u64) -> Result<(), Memory>
+    requires same { book.old.arena.vertices ≡ graph.now.vertices }
+    requires alone { AreSingles graph.now.vertices (kept_paths book.old) }
+    ensures formed { OnOk result (RowsAreFormed graph.now birth book.old graph.now.vertices 0 book.new) }
+    ensures lawful { OnErr result (IsBook book.new) }
+{
+    let n = graph.vertices();
+    book.show_lawful();
+    'rows: for u in 0..n {
+        'edges: for v in 0..n {
+            form_edge(book, graph, u, v, birth)?;
+        }
     }
     Ok(())
 }

@@ -23,7 +23,9 @@ use Rattle.apsp_model.proofs.Lists.{part_is_whole}
 use Rattle.fixup_math.proofs.Start.{away, vertex_of_one, local_single, not_touching, walk_on, walk_was, walk_avoids}
 
 avoids_part : (v : ℕ) (p q : List ℕ) → Avoids p v → IsPart q p → Avoids q v
-avoids_part v p q avoids part c = avoids (subst (λ (r : List ℕ). Contains r v) (sym part.whole) (Contains-append_right part.before (q ++ part.after) v (Contains-append_left q part.after v c)))
+avoids_part v p q avoids part c =
+    avoids (subst (λ (r : List ℕ). Contains r v) (sym part.whole)
+    (Contains-append_right part.before (q ++ part.after) v (Contains-append_left q part.after v c)))
 
 part_of_one : (p q : List ℕ) → length p ≡ 1 → IsPart q p → length q ≡ 1
 part_of_one p q one part = elim (part_is_whole p q part) [
@@ -31,16 +33,31 @@ part_of_one p q one part = elim (part_is_whole p q part) [
   | inr same ↦ ap length same ∙ one
 ]
 
-module _ (v : ℕ) (was g : Graph) (agree : AgreeAway v was g) (before left : List KeptPath) (local : AreLocal was before) (cleaned : IsCleaned v before left) where
-  entry_was : (e : KeptPath) (p : List ℕ) → Contains left e → e.list ≡ p → Contains before e × (Avoids p v ⊎ (length p ≡ 1))
+module _ (v : ℕ) (was g : Graph) (agree : AgreeAway v was g) (before left : List KeptPath) (local : AreLocal was before)
+    (cleaned : IsCleaned v before left) where
+  entry_was : (e : KeptPath) (p : List ℕ) → Contains left e → e.list ≡ p → Contains before e
+      × (Avoids p v ⊎ (length p ≡ 1))
   entry_was e p stands is =
       let old : Contains before e × (Avoids e.list v ⊎ (length e.list ≡ 1)) = (cleaned e).0 stands in (
         old.0,
-        elim old.1 [ inl avoids ↦ inl (subst (λ (q : List ℕ). Avoids q v) is avoids) | inr one ↦ inr (sym (ap length is) ∙ one) ],
+        elim old.1 [
+          | inl avoids ↦ inl (subst (λ (q : List ℕ). Avoids q v) is avoids)
+          | inr one ↦
+              inr (sym (ap length is) ∙ one)
+        ],
       )
 
-  entry_stays : (e : KeptPath) (p : List ℕ) → Contains before e → e.list ≡ p → Avoids p v ⊎ (length p ≡ 1) → Contains left e
-  entry_stays e p stood is stays = (cleaned e).1 (stood, elim stays [ inl avoids ↦ inl (subst (λ (q : List ℕ). Avoids q v) (sym is) avoids) | inr one ↦ inr (ap length is ∙ one) ])
+  entry_stays : (e : KeptPath) (p : List ℕ) → Contains before e → e.list ≡ p → Avoids p v ⊎ (length p ≡ 1)
+      → Contains left e
+  entry_stays e p stood is stays =
+      (cleaned e).1 (
+        stood,
+        elim stays [
+          | inl avoids ↦
+              inl (subst (λ (q : List ℕ). Avoids q v) (sym is) avoids)
+          | inr one ↦ inr (ap length is ∙ one)
+        ],
+      )
 
   kept_before : (p : List ℕ) → IsKeptIn left p → IsKeptIn before p × (Avoids p v ⊎ (length p ≡ 1))
   kept_before p h = let old = entry_was h.0 p h.1 h.2 in ((h.0, old.0, h.2), old.1)
@@ -59,9 +76,12 @@ module _ (v : ℕ) (was g : Graph) (agree : AgreeAway v was g) (before left : Li
   weight_apart [] avoids = refl
   weight_apart (x ∷ []) avoids = refl
   weight_apart (x ∷ y ∷ p) avoids =
-      let apart : touches v (x, y) ≡ false = not_touching was g v (IsHistoricalIn before) agree.vertices agree.weights x y p avoids in
-      let edge : edge_weight was x y ≡ edge_weight (without_star g v) x y = ap (λ o. unwrap_or o 0) (agree.weights x y apart ∙ sym (away g v x y apart)) in
-      let rest : weight_of was (y ∷ p) ≡ weight_of (without_star g v) (y ∷ p) = weight_apart (y ∷ p) (λ c. avoids (Contains-append_right (x ∷ []) (y ∷ p) v c)) in
+      let apart : touches v (x, y) ≡ false =
+      not_touching was g v (IsHistoricalIn before) agree.vertices agree.weights x y p avoids in
+      let edge : edge_weight was x y ≡ edge_weight (without_star g v) x y =
+      ap (λ o. unwrap_or o 0) (agree.weights x y apart ∙ sym (away g v x y apart)) in
+      let rest : weight_of was (y ∷ p) ≡ weight_of (without_star g v) (y ∷ p) =
+      weight_apart (y ∷ p) (λ c. avoids (Contains-append_right (x ∷ []) (y ∷ p) v c)) in
       λ i. edge i + rest i
 
   single_weight : (p : List ℕ) → length p ≡ 1 → weight_of was p ≡ weight_of (without_star g v) p
@@ -81,14 +101,16 @@ module _ (v : ℕ) (was g : Graph) (agree : AgreeAway v was g) (before left : Li
         }
         | inr one ↦
             let single : IsVertex was.vertices p = vertex_of_one was p l.walk (omega (arith, one)) in
-            local_single (without_star g v) (IsHistoricalIn left) p (single.0, subst (λ n. single.0 < n) agree.vertices single.1, single.2)
+            local_single (without_star g v) (IsHistoricalIn left) p
+            (single.0, subst (λ n. single.0 < n) agree.vertices single.1, single.2)
       ]
 
   is_kept : (p : List ℕ) → IsLocal (without_star g v) (IsHistoricalIn left) p → IsKeptIn left p
   is_kept p l = elim (cases_lt (length p) 2) [
     | inl short ↦
         let single : IsVertex g.vertices p = vertex_of_one (without_star g v) p l.walk short in
-        stays_kept p ((local.kept p).1 (local_single was (IsHistoricalIn before) p (single.0, subst (λ n. single.0 < n) (sym agree.vertices) single.1, single.2))) (inr (ap length single.2))
+        stays_kept p ((local.kept p).1 (local_single was (IsHistoricalIn before) p
+        (single.0, subst (λ n. single.0 < n) (sym agree.vertices) single.1, single.2))) (inr (ap length single.2))
     | inr long ↦
         stays_kept p
         ((local.kept p).1 (record {
@@ -103,9 +125,15 @@ module _ (v : ℕ) (was g : Graph) (agree : AgreeAway v was g) (before left : Li
   cleanup_leaves_ready = record {
     closed = λ p q h part.
         let old = historical_before p h in
-        stays_historical q (local.closed p q old.0 part) (elim old.1 [ inl avoids ↦ inl (avoids_part v p q avoids part) | inr one ↦ inr (part_of_one p q one part) ]);
+        stays_historical q (local.closed p q old.0 part)
+        (elim old.1 [
+          | inl avoids ↦ inl (avoids_part v p q avoids part)
+          | inr one ↦
+              inr (part_of_one p q one part)
+        ]);
     kept = λ p. (is_local p, is_kept p);
     weights = λ e held.
         let old : Contains before e × (Avoids e.list v ⊎ (length e.list ≡ 1)) = (cleaned e).0 held in
-        local.weights e old.0 ∙ elim old.1 [ inl avoids ↦ weight_apart e.list avoids | inr one ↦ single_weight e.list one ];
+        local.weights e old.0 ∙ elim old.1
+        [ inl avoids ↦ weight_apart e.list avoids | inr one ↦ single_weight e.list one ];
   }

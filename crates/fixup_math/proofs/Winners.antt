@@ -21,10 +21,16 @@ use Rattle.fixup_math.specs.Settling.{ClassInvariant}
 
 ends_of : (g : Graph) (p : List ℕ) → IsWalk g p → (x : ℕ) × (y : ℕ) × IsWalkFrom g x y p
 ends_of g [] h = absurd h
-ends_of g (x ∷ p) h = let l : (y : ℕ) × (last (x ∷ p) ≡ Some y) = last_is (x ∷ p) (omega arith) in (x, l.0, record { walk = h; from = refl; to = l.1 })
+ends_of g (x ∷ p) h =
+    let l : (y : ℕ) × (last (x ∷ p) ≡ Some y) = last_is (x ∷ p) (omega arith) in
+    (x, l.0, record { walk = h; from = refl; to = l.1 })
 
 -- it holds once a class is taken
-pub class_starts : (g : Graph) (UpTo : List ℕ → List ℕ → Type 0) (rank : IsRank g UpTo) (H0 H K Q : List ℕ → Type 0) (Won : ℕ → ℕ → Type 0) (s : SettlingInvariant g H0 H K Q Won) (Rest Winner : List ℕ → Type 0) (c : List ℕ) (class : IsClass g UpTo Q Rest Winner Won c) (Won1 : ℕ → ℕ → Type 0) → ((x y : ℕ) → Won1 x y ↔ (Won x y ⊎ ((w : List ℕ) × Winner w × IsWalkFrom g x y w))) → ClassInvariant g UpTo H0 H K Rest Winner Won1 c
+pub class_starts : (g : Graph) (UpTo : List ℕ → List ℕ → Type 0) (rank : IsRank g UpTo) (H0 H K Q : List ℕ → Type 0)
+    (Won : ℕ → ℕ → Type 0) (s : SettlingInvariant g H0 H K Q Won) (Rest Winner : List ℕ → Type 0) (c : List ℕ)
+    (class : IsClass g UpTo Q Rest Winner Won c) (Won1 : ℕ → ℕ → Type 0)
+    → ((x y : ℕ) → Won1 x y ↔ (Won x y ⊎ ((w : List ℕ) × Winner w × IsWalkFrom g x y w)))
+    → ClassInvariant g UpTo H0 H K Rest Winner Won1 c
 class_starts g UpTo rank H0 H K Q Won s Rest Winner c class Won1 won1 = record {
   closed = s.closed;
   singles = s.singles;
@@ -39,7 +45,10 @@ class_starts g UpTo rank H0 H K Q Won s Rest Winner c class Won1 won1 = record {
     | inr w ↦ (w.0, inr w.1, least_winner g UpTo rank H0 H K Q Won s Rest Winner c class x y w.0 w.1 w.2)
   ];
   todo_kept = λ w h. s.held_kept w (class.winner_held w h);
-  todo_least = λ w h. let e : (x : ℕ) × (y : ℕ) × IsWalkFrom g x y w = ends_of g w ((s.kept w).0 (s.held_kept w (class.winner_held w h))).walk in (e.0, e.1, least_winner g UpTo rank H0 H K Q Won s Rest Winner c class e.0 e.1 w h e.2);
+  todo_least =
+      λ w h. let e : (x : ℕ) × (y : ℕ) × IsWalkFrom g x y w = ends_of g w
+      ((s.kept w).0 (s.held_kept w (class.winner_held w h))).walk in
+      (e.0, e.1, least_winner g UpTo rank H0 H K Q Won s Rest Winner c class e.0 e.1 w h e.2);
   todo_long = class.winner_long;
   todo_new = winner_is_new g UpTo rank H0 H K Q Won s Rest Winner c class;
   todo_won = λ x y w h walk. (won1 x y).1 (inr (w, h, walk));

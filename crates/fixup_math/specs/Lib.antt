@@ -1,3 +1,4 @@
 pub mod Ranks
 pub mod Joins
 pub mod Settling
+pub mod Refresh

@@ -3,3 +3,4 @@ pub mod Graphs
 pub mod StarRows
 pub mod Cells
 pub mod Sets
+pub mod Wide

@@ -1,15 +1,14 @@
 -- The edges of a star: which are refused, and what one edge more or less leaves.
 use Rattle.std.specs.Prelude.{ℕ, ◌≤◌, ◌==◌, ◌||◌, nat_lt, nat_le, is_some, if◌then◌else◌, Option, Some, None, Result, Ok, Err}
 use Rattle.std.specs.FinMap as map
-use Rattle.apsp_model.specs.declared.TheConstants.{LEAST_WEIGHT, MOST_WEIGHT}
+use Rattle.apsp_model.specs.declared.TheConstants.{MOST_WEIGHT}
 use Rattle.apsp_model.specs.Star.{Star}
 use Rattle.graph_store.specs.declared.star.StarError.{StarError}
 use Rattle.graph_store.specs.declared.star.StarError.TheVariants.{Vertex, SelfEdge, Repeat, Weight}
 
 -- an edge may have the weight w
-pub record IsWeight (w : ℕ) : Type 0 where
-  pub least : LEAST_WEIGHT ≤ w
-  pub most : w ≤ MOST_WEIGHT
+abbrev pub IsWeight : ℕ → Type 0
+IsWeight w = w ≤ MOST_WEIGHT
 
 -- The first test that an edge between v and u of weight w fails, where n is the number of vertices
 -- and the star has the given edge between the two in that direction.
@@ -18,7 +17,7 @@ first_refusal n v present u w =
     if nat_le n u then Some Vertex
     else (if u == v then Some SelfEdge
     else (if is_some present then Some Repeat
-    else (if nat_lt w LEAST_WEIGHT || nat_lt MOST_WEIGHT w then Some Weight else None)))
+    else (if nat_lt MOST_WEIGHT w then Some Weight else None)))
 
 -- why a star refuses an edge to or from u of weight w, if it does
 abbrev pub refusal_of : Star → ℕ × ℕ → ℕ → ℕ → Option StarError

@@ -1,6 +1,6 @@
 -- What rows of cells say: row u has the weights of the edges from u, one cell for each vertex.
 -- No public clause cites this module.
-use Rattle.std.specs.Prelude.{◌≡◌, ℕ, ◌+◌, ◌*◌, ◌<◌, ◌==◌, ◌&&◌, nat_lt, if◌then◌else◌, List, length, slice_index_or, Option, None}
+use Rattle.std.specs.Prelude.{◌≡◌, ℕ, ◌+◌, ◌*◌, ◌<◌, ◌⊎◌, ◌==◌, ◌&&◌, nat_lt, if◌then◌else◌, List, length, slice_index_or, Option, None}
 use Rattle.apsp_model.specs.Graph.{Graph, IsGraph}
 use Rattle.apsp_model.specs.Star.{Star, IsStar}
 use Rattle.graph_store.specs.Table.{map_of}
@@ -53,3 +53,13 @@ pub record HasStar (n v : ℕ) (row column old new : List (Option ℕ)) : Type 0
 pub record IsColumn (n v count : ℕ) (rows column : List (Option ℕ)) : Type 0 where
   pub size : length column ≡ n
   pub cells : (a : ℕ) → a < count → cell_at column a ≡ cell_at rows (a * n + v)
+
+-- the cell of u and v in a table of rows of n cells, and none beyond it
+abbrev pub wide_cell : ℕ → List (Option ℕ) → ℕ → ℕ → Option ℕ
+wide_cell n rows a b = if nat_lt a n && nat_lt b n then cell_at rows (a * n + b) else None
+
+-- in a table of rows of m cells the cells before that of u and v are those of the rows of n cells, and none beyond them
+pub record HasRowsUpto (m n u v : ℕ) (rows wide : List (Option ℕ)) : Type 0 where
+  pub size : length wide ≡ m * m
+  pub cells : (a b : ℕ) → a < m → b < m → (a < u) ⊎ ((a ≡ u) × (b < v))
+      → cell_at wide (a * m + b) ≡ wide_cell n rows a b

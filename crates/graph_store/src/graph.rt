@@ -1,10 +1,10 @@
 //! The graph, as a table of weights.
 
-ghost use Rattle.std.specs.Prelude.{◌≡◌, ◌<◌, ◌*◌, length, replicate, IfOk, Option, None};
-ghost use Rattle.apsp_model.specs.Graph.{weight_at, no_edges, IsGraph};
+ghost use Rattle.std.specs.Prelude.{◌≡◌, ◌<◌, ◌≤◌, ◌*◌, length, replicate, IfOk, Option, None};
+ghost use Rattle.apsp_model.specs.Graph.{weight_at, no_edges, widened, IsGraph};
 ghost use Rattle.apsp_model.specs.Star.{star_of, star_at, IsStar};
 ghost use Rattle.graph_store.specs.Making.{IsMakeAnswer};
-ghost use Rattle.graph_store.specs.Rows.{HasRow, HasColumn, HasStar, IsColumn};
+ghost use Rattle.graph_store.specs.Rows.{HasRow, HasColumn, HasStar, IsColumn, wide_cell, HasRowsUpto};
 
 use crate::star::Star;
 use apsp_model::MOST_VERTICES;
@@ -115,6 +115,17 @@ impl Graph {
     {
         other.cells.copy_from_slice(&self.cells);
     }
+
+    /// Gives the other graph, which has at least as many vertices, exactly the edges of this one, in
+    /// O(m²) for its m vertices.
+    pub fn widen_into(&self, other: &mut Graph)
+        requires { self.now.vertices ≤ other.old.vertices }
+        ensures wider { other.new ≡ widened self.now other.old.vertices }
+        ensures graph { IsGraph other.new }
+    {
+        let count = other.vertices as usize;
+        put_rows(&mut other.cells, count, &self.cells, self.vertices as usize);
+    }
 }
 
 /// So many cells, and no edge in any of them.
@@ -133,6 +144,32 @@ fn put_star(cells: &mut [Option<u32>], row: &[Option<u32>], column: &[Option<u32
 {
     put_row(cells, row, number);
     put_column(cells, column, number);
+}
+
+/// Writes rows of n cells into a table of rows of m cells, and no edge into all its other cells.
+fn put_rows(wide: &mut [Option<u32>], m: usize, rows: &[Option<u32>], n: usize)
+    requires wide_size { length wide.old ≡ m * m }
+    requires size { length rows.now ≡ n * n }
+    requires fewer { n ≤ m }
+    ensures { HasRowsUpto m n m 0 rows.now wide.new }
+{
+    'rows: for u in 0..m {
+        'cells: for v in 0..m {
+            wide[u * m + v] = cell_of(rows, n, u, v);
+        }
+    }
+}
+
+/// The cell of u and v in a table of rows of n cells, and no edge beyond it.
+fn cell_of(rows: &[Option<u32>], n: usize, u: usize, v: usize) -> Option<u32>
+    requires { length rows.now ≡ n * n }
+    ensures { result ≡ wide_cell n rows.now u v }
+{
+    if u < n && v < n {
+        rows[u * n + v]
+    } else {
+        None
+    }
 }
 
 /// Writes the row of the cells with this number.

@@ -9,7 +9,7 @@ ghost use Rattle.graph_store.specs.Rows.{cell_at};
 ghost use Rattle.graph_store.specs.Edges.{IsWeight, first_refusal, refusal_of, ok_unless, with_edge, with_maybe_edge};
 
 use crate::graph::no_cells;
-use apsp_model::{LEAST_WEIGHT, MOST_WEIGHT};
+use apsp_model::MOST_WEIGHT;
 use std::alloc::{AllocError, Global};
 use std::marker::Model;
 
@@ -22,7 +22,7 @@ pub enum StarError {
     SelfEdge,
     /// The star has that edge already.
     Repeat,
-    /// The weight is outside `LEAST_WEIGHT` to `MOST_WEIGHT`.
+    /// The weight is above `MOST_WEIGHT`.
     Weight,
     /// Want of memory.
     Memory,
@@ -165,7 +165,7 @@ fn new_weight(vertex: u32, row: &[Option<u32>], u: u32, w: u64) -> Result<u32, S
     if row[u as usize].is_some() {
         return Err(StarError::Repeat);
     }
-    if w < u64::from(LEAST_WEIGHT) || w > u64::from(MOST_WEIGHT) {
+    if w > u64::from(MOST_WEIGHT) {
         return Err(StarError::Weight);
     }
     Ok(w as u32)

@@ -8,8 +8,8 @@ fn numbers_of_vertices(rt: HostRuntime) -> Result<(), Fail> {
     for (n, wanted) in [
         (0, Some(MakeError::Vertices)),
         (1, None),
-        (128, None),
-        (129, Some(MakeError::Vertices)),
+        (512, None),
+        (513, Some(MakeError::Vertices)),
     ] {
         assert_eq!(rt; Graph::new(rt.alloc(), n).err(), wanted, "at {n}");
     }
@@ -24,18 +24,17 @@ fn edges_of_a_star(rt: HostRuntime) -> Result<(), Fail> {
     for (u, w, wanted) in [
         (3, 5, Some(StarError::Vertex)),
         (1, 0, Some(StarError::SelfEdge)),
-        (2, 0, Some(StarError::Weight)),
         (2, 4294967296, Some(StarError::Weight)),
         (2, 4294967295, None),
         (2, 0, Some(StarError::Repeat)),
-        (0, 1, None),
+        (0, 0, None),
     ] {
         assert_eq!(rt; star.set_out(u, w).err(), wanted, "out {u}:{w}");
         assert_eq!(rt; star.set_in(u, w).err(), wanted, "in {u}:{w}");
     }
     assert_eq!(rt; (star.vertices(), star.vertex()), (3, 1));
     assert_eq!(rt; star.out_weight(2), Some(4294967295));
-    assert_eq!(rt; star.in_weight(0), Some(1));
+    assert_eq!(rt; star.in_weight(0), Some(0));
     star.put_out(2, None);
     star.put_out(0, Some(7));
     assert_eq!(rt; (star.out_weight(2), star.out_weight(0)), (None, Some(7)));

@@ -3,6 +3,12 @@ pub mod Stepping
 pub mod Cleaning
 pub mod Steps
 pub mod Updating
+pub mod InPlace
 pub mod Reading
 pub mod Existing
 pub mod Seconds
+pub mod Mends
+pub mod Grows
+pub mod Widening
+pub mod Copying
+pub mod Longer

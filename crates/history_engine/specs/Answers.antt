@@ -12,7 +12,14 @@ pub record IsChange (before after : EngineSeen) (c : Change) : Type 0 where
   pub formed : c.formed ≡ after.formed
   pub removed : c.removed ≡ after.removed
 
--- an update that memory ran out in leaves the engine spent, and all as it was but for the book
+-- the numbers of a mend: no update, one step, all kept paths with an edge are formed, and none is removed
+pub record IsMendChange (after : EngineSeen) (c : Change) : Type 0 where
+  pub number : c.number ≡ length after.vertices
+  pub steps : c.steps ≡ 1
+  pub formed : PathsAre (moment_seen after) c.formed
+  pub removed : c.removed ≡ 0
+
+-- an update or a mend that memory ran out in leaves the engine spent, and all as it was but for the book
 abbrev pub IsSpentBy : EngineSeen → EngineSeen → Type 0
 IsSpentBy before after = after ≡ record before { spent = true; book = after.book }
 

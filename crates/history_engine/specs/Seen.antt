@@ -1,19 +1,19 @@
 -- What contracts see of an engine.
-use Rattle.std.specs.Prelude.{◌≡◌, ℕ, ◌↔◌, Bool, List, Contains, refl}
-use Rattle.std.specs.Coded.{Coded, code_by, coded×, coded_ℕ, coded_bool, coded_list}
+use Rattle.std.specs.Prelude.{◌≡◌, ℕ, ◌↔◌, Bool, List, Option, Contains, refl}
+use Rattle.std.specs.Coded.{Coded, code_by, coded×, coded_ℕ, coded_bool, coded_list, coded_option}
 use Rattle.apsp_model.specs.Graph.{Graph, graph_code}
 use Rattle.apsp_model.specs.Walk.{weight_of}
 use Rattle.apsp_model.specs.Kept.{Moment}
 use Rattle.path_book.specs.Book.{Book, book_code, kept_paths}
 use Rattle.apsp_model.specs.Paths.{KeptPath, IsOncePerList, moment_in}
 
--- the opening number of vertices; the graph; whether smoothing is on; the vertex of each update; the number of steps;
--- what the latest update formed and removed; whether the engine is spent; and the book that it holds
+-- the opening number of vertices; the graph; whether smoothing is on; the vertex of each update, and none for a grow; the
+-- number of steps; what the latest update formed and removed; whether the engine is spent; and the book that it holds
 pub record EngineSeen : Type 0 where
   pub opening : ℕ
   pub graph : Graph
   pub smooth : Bool
-  pub vertices : List ℕ
+  pub vertices : List (Option ℕ)
   pub steps : ℕ
   pub formed : ℕ
   pub removed : ℕ
@@ -22,11 +22,11 @@ pub record EngineSeen : Type 0 where
 
 abbrev pub engine_seen_code : Coded EngineSeen
 engine_seen_code =
-    code_by (ℕ × (Graph × (Bool × (List ℕ × (ℕ × (ℕ × (ℕ × (Bool × Book))))))))
+    code_by (ℕ × (Graph × (Bool × (List (Option ℕ) × (ℕ × (ℕ × (ℕ × (Bool × Book))))))))
     (coded× coded_ℕ
     (coded× graph_code
     (coded× coded_bool
-    (coded× (coded_list coded_ℕ)
+    (coded× (coded_list (coded_option coded_ℕ))
     (coded× coded_ℕ (coded× coded_ℕ (coded× coded_ℕ (coded× coded_bool book_code))))))))
     (λ e. (e.opening, (e.graph, (e.smooth, (e.vertices, (e.steps, (e.formed, (e.removed, (e.spent, e.book)))))))))
     (λ t. record {

@@ -32,7 +32,6 @@ impl Answers for Engine {
     }
 
     fn entry(&self, x: u32, y: u32) -> Option<Entry> {
-        self.graph_has_each_vertex();
         let least = self.least(x, y)?;
         Some(Entry {
             dist: least.weight(),

@@ -1,21 +1,23 @@
 //! The engine.
 
-ghost use Rattle.std.specs.Prelude.{◌≡◌, ◌<◌, ◌≤◌, ◌^◌, ◌↔◌, ℕ, List, [], length, true, false, IfOk, OnOk, MatchOption, All, Err};
+ghost use Rattle.std.specs.Prelude.{◌≡◌, ◌<◌, ◌≤◌, ◌+◌, ◌*◌, ◌^◌, ◌↔◌, ℕ, List, [], length, true, false, IfOk, OnOk, OnErr, MatchOption, All, Err};
 ghost use Rattle.apsp_model.specs.Limits.{IsWorkerCount};
-ghost use Rattle.apsp_model.specs.declared.TheConstants.{MOST_UPDATES};
-ghost use Rattle.apsp_model.specs.Command.{Command, Update};
+ghost use Rattle.apsp_model.specs.declared.TheConstants.{MOST_UPDATES, MOST_VERTICES};
+ghost use Rattle.apsp_model.specs.Command.{Command, Star_update, Grow_update, Mend};
 ghost use Rattle.apsp_model.specs.Counts.{CountsAre};
 ghost use Rattle.apsp_model.specs.Kept.{IsKept, HasBirth};
 ghost use Rattle.apsp_model.specs.Least.{HasNoWalk};
 ghost use Rattle.apsp_model.specs.Paths.{IsKeptIn, HasBirthIn};
 ghost use Rattle.graph_store.specs.Making.{IsVertexCount, IsMakeAnswer};
 ghost use Rattle.history_engine.specs.Advance.{Advance, Stands};
-ghost use Rattle.history_engine.specs.Answers.{IsChange, IsSpentBy, AreCounts, numbers};
+ghost use Rattle.history_engine.specs.Answers.{IsChange, IsMendChange, IsSpentBy, AreCounts, numbers};
 ghost use Rattle.history_engine.specs.Least.{IsLeastPath};
 ghost use Rattle.history_engine.specs.Seen.{paths_of};
 ghost use Rattle.history_engine.specs.declared.engine.EngineError.TheVariants as error;
 
+use crate::growing::wider_book;
 use crate::least::Least;
+use crate::mending::mend_step;
 use crate::timeline::Timeline;
 use crate::update::{Progress, Workers, update};
 use apsp_io::Gate;
@@ -29,7 +31,7 @@ use std::thread::Threads;
 /// Why an update was not made.
 #[derive(Clone, Copy, Debug, PartialEq, Eq)]
 pub enum EngineError {
-    /// Memory ran out in an earlier update.
+    /// Memory ran out in an earlier update or mend.
     Spent = 1,
     /// Want of memory.
     Memory,
@@ -71,6 +73,8 @@ pub struct Counts {
 #[derive(Drop)]
 pub struct Engine {
     alloc: Global,
+    // The number of vertices at first.
+    opening: u32,
     graph: Graph,
     // Room for the star that an update replaces.
     before: Star,
@@ -116,6 +120,7 @@ impl Engine {
         };
         Ok(Engine {
             alloc,
+            opening: n,
             graph,
             before,
             book,
@@ -131,14 +136,15 @@ impl Engine {
     }
 
     /// Replaces all edges at the star's vertex by those of the star, and brings the kept paths up to
-    /// date. The number of workers has no effect yet.
+    /// date. Several workers look for the paths through a vertex, and for the joins of a class, where
+    /// there are very many of them; the number of workers changes no result.
     ///
     /// `Spent` changes nothing. After `Memory` the graph and the counts are those from before, and
     /// the engine is spent.
     ///
-    /// Time: for each step a look at a flag of each of the n² pairs; for each path that it adds as many
-    /// comparisons as the logarithm of the paths of its pair; and for each that it takes away a look at
-    /// the paths of its pair and at the extensions of its two parts.
+    /// Time: O(n) for each step; for each path that it adds as many comparisons as the logarithm of the
+    /// paths of its pair; for each that it takes away a look at the paths of its pair and at the
+    /// extensions of its two parts; and for each other path that a cleaning step finds at its vertex O(1).
     pub fn star<R: Threads + Sync, G: Gate>(
         &mut self,
         rt: &R,
@@ -146,10 +152,10 @@ impl Engine {
         workers: u32,
         gate: &G,
     ) -> Result<Change, EngineError>
-        requires same { star.now.vertices ≡ self.old.opening }
+        requires same { star.now.vertices ≡ self.old.graph.vertices }
         requires few { length self.old.vertices < MOST_UPDATES }
         requires workers { IsWorkerCount workers }
-        ensures advance { OnOk result (Advance self.old (Update star.now) self.new) }
+        ensures advance { OnOk result (Advance self.old (Star_update star.now) self.new) }
         ensures change { IfOk result (IsChange self.old self.new) }
         ensures spent { (result ≡ Err error.Spent) ↔ (self.old.spent ≡ true) }
         ensures unchanged { result ≡ Err error.Spent → self.new ≡ self.old }
@@ -196,7 +202,95 @@ impl Engine {
         }
     }
 
-    /// Whether memory ran out in an update. No reader takes memory, and all but `birth` are O(1).
+    /// Adds vertices without edges, so that there are n. It is an update, with one step that forms and
+    /// removes nothing. After a refusal the engine is as it was.
+    pub fn grow(&mut self, n: u32) -> Result<Change, EngineError>
+        requires more { self.old.graph.vertices < n }
+        requires most { n ≤ MOST_VERTICES }
+        requires few { length self.old.vertices < MOST_UPDATES }
+        ensures advance { OnOk result (Advance self.old (Grow_update n) self.new) }
+        ensures change { IfOk result (IsChange self.old self.new) }
+        ensures nothing { IfOk result (λ c. (c.formed ≡ 0) × (c.removed ≡ 0)) }
+        ensures spent { (result ≡ Err error.Spent) ↔ (self.old.spent ≡ true) }
+        ensures unchanged { OnErr result (self.new ≡ self.old) }
+    {
+        if self.spent {
+            return Err(EngineError::Spent);
+        }
+        let Ok(mut graph) = Graph::new(self.alloc, n) else {
+            return Err(EngineError::Memory);
+        };
+        let Ok(before) = Star::new(self.alloc, n, 0) else {
+            return Err(EngineError::Memory);
+        };
+        let Ok(book) = wider_book(self.alloc, &self.book, &self.graph, n) else {
+            return Err(EngineError::Memory);
+        };
+        if self.timeline.grow(self.alloc, n).is_err() {
+            return Err(EngineError::Memory);
+        }
+        self.graph.widen_into(&mut graph);
+        self.graph = graph;
+        self.before = before;
+        self.book = book;
+        self.progress = Progress {
+            steps: self.progress.steps + 1,
+            formed: 0,
+            removed: 0,
+        };
+        Ok(Change {
+            number: self.timeline.len() as u64,
+            steps: 1,
+            formed: 0,
+            removed: 0,
+        })
+    }
+
+    /// Makes the kept paths anew, and forgets all of the past: the historical paths are the least walks
+    /// of the present graph then. It may be called whether or not the engine is spent, and makes it
+    /// fit again.
+    ///
+    /// The `Change` has the number of updates, one step, and the kept paths with an edge as formed;
+    /// what `counts` says of the latest update stays. After `Memory` the graph and the counts are those
+    /// from before, and the engine is spent.
+    pub fn mend<R: Threads + Sync, G: Gate>(
+        &mut self,
+        rt: &R,
+        workers: u32,
+        gate: &G,
+    ) -> Result<Change, Memory>
+        requires few { self.old.steps < 2 ^ 62 }
+        requires workers { IsWorkerCount workers }
+        ensures advance { OnOk result (Advance self.old Mend self.new) }
+        ensures change { IfOk result (IsMendChange self.new) }
+        ensures memory { OnErr result (IsSpentBy self.old self.new) }
+    {
+        let by = Workers {
+            rt,
+            alloc: self.alloc,
+            count: workers,
+            gate,
+        };
+        match mend_step(&by, &self.graph, self.progress.steps) {
+            Ok(made) => {
+                self.book = made.book;
+                self.progress.steps += 1;
+                self.spent = false;
+                Ok(Change {
+                    number: self.timeline.len() as u64,
+                    steps: 1,
+                    formed: made.formed,
+                    removed: 0,
+                })
+            }
+            Err(Memory) => {
+                self.spent = true;
+                Err(Memory)
+            }
+        }
+    }
+
+    /// Whether memory ran out in an update or a mend. No reader takes memory, and all but `birth` are O(1).
     pub fn is_spent(&self) -> bool
         ensures { result ≡ self.now.spent }
     {
@@ -205,7 +299,7 @@ impl Engine {
 
     /// The number of vertices.
     pub fn vertices(&self) -> u32
-        ensures vertices { result ≡ self.now.opening }
+        ensures vertices { result ≡ self.now.graph.vertices }
         ensures range { IsVertexCount result }
     {
         self.graph.vertices()
@@ -218,19 +312,19 @@ impl Engine {
         self.timeline.len() as u64
     }
 
+    /// The number of steps, whether or not the engine is spent.
+    pub fn steps(&self) -> u64
+        ensures steps { result ≡ self.now.steps }
+        ensures most { result ≤ 2 ^ 62 + 42 * length self.now.vertices }
+    {
+        self.progress.steps
+    }
+
     /// The present graph.
     pub fn graph(&self) -> &Graph
         ensures graph { result.now ≡ self.now.graph }
-        ensures same { self.now.graph.vertices ≡ self.now.opening }
     {
         &self.graph
-    }
-
-    /// Says to the prover that the graph has as many vertices as the engine, and does nothing.
-    pub fn graph_has_each_vertex(&self)
-        ensures { self.now.graph.vertices ≡ self.now.opening }
-    {
-        let _graph = self.graph();
     }
 
     /// The book of the kept paths.
@@ -244,8 +338,8 @@ impl Engine {
     /// The least walk from x to y, and none exactly where there is no walk.
     pub fn least(&self, x: u32, y: u32) -> Option<Least<'_>>
         requires not_spent { self.now.spent ≡ false }
-        requires from { x < self.now.opening }
-        requires to { y < self.now.opening }
+        requires from { x < self.now.graph.vertices }
+        requires to { y < self.now.graph.vertices }
         ensures { MatchOption result (HasNoWalk self.now.graph x y) (IsLeastPath self.now x y) }
     {
         let id = self.book.least(x, y)?;
@@ -274,7 +368,7 @@ impl Engine {
     pub fn birth(&self, list: &[u32]) -> Option<u64>
         requires not_spent { self.now.spent ≡ false }
         requires some { 0 < length list.now }
-        requires inside { All (λ v. v < self.now.opening) list.now }
+        requires inside { All (λ v. v < self.now.graph.vertices) list.now }
         ensures seen { MatchOption result (IsKeptIn (paths_of self.now) list.now → ⊥)
             (HasBirthIn (paths_of self.now) list.now) }
         ensures birth { (commands : List Command) → Stands self.now commands

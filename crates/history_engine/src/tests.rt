@@ -56,6 +56,15 @@ fn put<R: Threads + Sync>(
     Ok(change)
 }
 
+/// A mend.
+fn mend<R: Threads + Sync>(rt: &R, engine: &mut Engine) -> Result<Change, Fail> {
+    if engine.steps() >= 1 << 62 {
+        return Err(Fail::from("too many steps"));
+    }
+    let change = engine.mend(rt, 1, &OpenGate)?;
+    Ok(change)
+}
+
 /// Three vertices, with an edge from 0 to 2 and then a lighter way by 1.
 fn two_stars<R: Threads + Sync>(rt: &R, alloc: Global, smooth: bool) -> Result<Engine, Fail> {
     let mut engine = Engine::new(alloc, 3, smooth)?;
@@ -115,7 +124,6 @@ fn version_of(alloc: Global, engine: &Engine) -> Result<Version, Fail> {
         return Err(Fail::from("the engine is spent"));
     }
     let mut version = Version::new(alloc, engine.vertices())?;
-    engine.graph_has_each_vertex();
     engine.fill(&mut version);
     Ok(version)
 }
@@ -196,6 +204,123 @@ fn a_cleaning_step_forms_the_edge_again(rt: HostRuntime) -> Result<(), Fail> {
     };
     assert_eq!(rt; counts(&engine), Some(wanted));
     assert_eq!(rt; birth(&engine, &[0, 2]), Some(3));
+    Ok(())
+}
+
+#[test]
+fn a_mend_forgets_the_past(rt: HostRuntime) -> Result<(), Fail> {
+    let mut engine = two_stars(&rt, rt.alloc(), false)?;
+    let wanted = Change {
+        number: 2,
+        steps: 1,
+        formed: 4,
+        removed: 0,
+    };
+    assert_eq!(rt; mend(&rt, &mut engine)?, wanted);
+    let wanted = Counts {
+        updates: 2,
+        steps: 3,
+        paths: 4,
+        historical: 3,
+        formed: 3,
+        removed: 1,
+    };
+    assert_eq!(rt; counts(&engine), Some(wanted));
+    assert_eq!(rt; birth(&engine, &[0, 1]), Some(3));
+    assert_eq!(rt; birth(&engine, &[0, 2]), Some(3));
+    put(&rt, rt.alloc(), &mut engine, 1, &[])?;
+    let wanted = Counts {
+        updates: 3,
+        steps: 4,
+        paths: 1,
+        historical: 1,
+        formed: 0,
+        removed: 3,
+    };
+    assert_eq!(rt; counts(&engine), Some(wanted));
+    assert_eq!(rt; birth(&engine, &[0, 2]), Some(3));
+    assert_eq!(rt; engine.steps(), 4);
+    Ok(())
+}
+
+/// A grow.
+fn grow(engine: &mut Engine, n: u32) -> Result<Change, Fail> {
+    if engine.vertices() >= n || n > MOST_VERTICES || engine.number() >= 1 << 40 {
+        return Err(Fail::from("no grow"));
+    }
+    let change = engine.grow(n)?;
+    Ok(change)
+}
+
+#[test]
+fn a_grow_keeps_what_is_kept(rt: HostRuntime) -> Result<(), Fail> {
+    let mut engine = Engine::new(rt.alloc(), 2, false)?;
+    put(&rt, rt.alloc(), &mut engine, 0, &[(0, 1, 5)])?;
+    let wanted = Change {
+        number: 2,
+        steps: 1,
+        formed: 0,
+        removed: 0,
+    };
+    assert_eq!(rt; grow(&mut engine, 4)?, wanted);
+    let wanted = Counts {
+        updates: 2,
+        steps: 2,
+        paths: 1,
+        historical: 1,
+        formed: 0,
+        removed: 0,
+    };
+    assert_eq!(rt; counts(&engine), Some(wanted));
+    put(&rt, rt.alloc(), &mut engine, 1, &[(0, 1, 5), (1, 3, 2)])?;
+    assert_eq!(rt; least(&engine, 0, 1, [0, 1]), Some((5, 1, true, true)));
+    let wanted = Counts {
+        updates: 3,
+        steps: 3,
+        paths: 3,
+        historical: 3,
+        formed: 3,
+        removed: 1,
+    };
+    assert_eq!(rt; counts(&engine), Some(wanted));
+    assert_eq!(rt; birth(&engine, &[0, 1]), Some(3));
+    Ok(())
+}
+
+#[test]
+fn a_grow_cleans_nothing(rt: HostRuntime) -> Result<(), Fail> {
+    let mut engine = Engine::new(rt.alloc(), 2, true)?;
+    put(&rt, rt.alloc(), &mut engine, 0, &[(0, 1, 5)])?;
+    grow(&mut engine, 3)?;
+    put(&rt, rt.alloc(), &mut engine, 1, &[(0, 1, 5), (1, 2, 1)])?;
+    let wanted = Counts {
+        updates: 3,
+        steps: 4,
+        paths: 3,
+        historical: 3,
+        formed: 5,
+        removed: 3,
+    };
+    assert_eq!(rt; counts(&engine), Some(wanted));
+    Ok(())
+}
+
+#[test]
+fn a_grow_copies_births_and_marks(rt: HostRuntime) -> Result<(), Fail> {
+    let mut engine = two_stars(&rt, rt.alloc(), false)?;
+    mend(&rt, &mut engine)?;
+    grow(&mut engine, 5)?;
+    let wanted = Counts {
+        updates: 3,
+        steps: 4,
+        paths: 4,
+        historical: 3,
+        formed: 0,
+        removed: 0,
+    };
+    assert_eq!(rt; counts(&engine), Some(wanted));
+    assert_eq!(rt; birth(&engine, &[0, 1, 2]), Some(3));
+    assert_eq!(rt; birth(&engine, &[4]), Some(0));
     Ok(())
 }
 

@@ -1,6 +1,6 @@
 //! The steps of an update: a star step at its vertex, and the cleaning steps behind it.
 
-ghost use Rattle.std.specs.Prelude.{◌≡◌, ◌<◌, ◌≤◌, ◌+◌, ◌*◌, ◌^◌, [], ◌∷◌, ◌++◌, length, IfOk, OnOk};
+ghost use Rattle.std.specs.Prelude.{◌≡◌, ◌<◌, ◌≤◌, ◌+◌, ◌*◌, ◌^◌, [], ◌∷◌, ◌++◌, length, Some, IfOk, OnOk};
 ghost use Rattle.apsp_model.specs.Limits.{IsWorkerCount};
 ghost use Rattle.apsp_model.specs.declared.TheConstants.{MOST_UPDATES, MOST_PATHS};
 ghost use Rattle.apsp_model.specs.Star.{Star};
@@ -15,7 +15,7 @@ ghost use Rattle.history_engine.specs.declared.update.TheConstants.{MOST_STEPS};
 use crate::timeline::Timeline;
 use apsp_io::Gate;
 use apsp_model::Memory;
-use cleanup_tasks::{forget_all, victims};
+use cleanup_tasks::{forget_all, refresh, victims};
 use fixup::settle;
 use graph_store::Graph;
 use path_book::Book;
@@ -115,7 +115,7 @@ fn clean<R: Threads + Sync, G: Gate>(
     requires few_removed { done.removed ≤ MOST_PATHS }
     ensures done { IfOk result
         (λ p. (e : EngineSeen) (s : Star)
-        → UpdateInvariant e s graph.now (cleaned (timeline.now.vertices ++ v ∷ [])) done.steps done.formed done.removed
+        → UpdateInvariant e s graph.now (cleaned (timeline.now.vertices ++ Some v ∷ [])) done.steps done.formed done.removed
         (kept_paths book.old) → UpdateInvariant e s graph.now [] p.steps p.formed p.removed (kept_paths book.new)) }
     ensures steps_few { IfOk result (λ p. p.steps ≤ done.steps + 40) }
     ensures steps_more { IfOk result (λ p. done.steps ≤ p.steps) }
@@ -149,9 +149,9 @@ fn clean_one<R: Threads + Sync, G: Gate>(
     ensures done { IfOk result
         (λ p. (e : EngineSeen) (s : Star)
         → UpdateInvariant e s graph.now
-        (left_from (timeline.now.vertices ++ v ∷ []) power) done.steps done.formed done.removed (kept_paths book.old)
+        (left_from (timeline.now.vertices ++ Some v ∷ []) power) done.steps done.formed done.removed (kept_paths book.old)
         → UpdateInvariant e s graph.now
-        (left_from (timeline.now.vertices ++ v ∷ []) (power + 1)) p.steps p.formed p.removed (kept_paths book.new)) }
+        (left_from (timeline.now.vertices ++ Some v ∷ []) (power + 1)) p.steps p.formed p.removed (kept_paths book.new)) }
     ensures paths { IfOk result (λ p. AreLawful graph.now p.steps (kept_paths book.new)) }
     ensures steps_few { IfOk result (λ p. p.steps ≤ done.steps + 1) }
     ensures steps_more { IfOk result (λ p. done.steps ≤ p.steps) }
@@ -162,7 +162,7 @@ fn clean_one<R: Threads + Sync, G: Gate>(
     let Some(cleaned) = timeline.cleaned(v, power) else {
         return Ok(done);
     };
-    let more = step(by, book, graph, cleaned, done.steps)?;
+    let more = clean_in_place(by, book, graph, cleaned, done.steps)?;
     Ok(Progress {
         steps: done.steps + 1,
         formed: done.formed + more.formed,
@@ -206,5 +206,34 @@ fn step<R: Threads + Sync, G: Gate>(
     Ok(Turnover {
         formed: settled.formed,
         removed: before - left,
+    })
+}
+
+/// Makes a star step at v with the star that it has, in place: nothing settles, and no memory is
+/// taken but for the list of the paths through v.
+fn clean_in_place<R: Threads + Sync, G: Gate>(
+    by: &Workers<'_, R, G>,
+    book: &mut Book,
+    graph: &Graph,
+    v: u32,
+    steps: u64,
+) -> Result<Turnover, Memory>
+    requires paths { AreLawful graph.now steps (kept_paths book.old) }
+    requires book_size { book.old.arena.vertices ≡ graph.now.vertices }
+    requires inside { v < graph.now.vertices }
+    requires few_steps { steps + 1 < 2 ^ 64 }
+    ensures done { IfOk result
+        (λ t. IsStepDone v graph.now steps (kept_paths book.old) (kept_paths book.new) t.formed t.removed) }
+    ensures formed_few { IfOk result (λ t. t.formed ≤ MOST_PATHS) }
+    ensures removed_few { IfOk result (λ t. t.removed ≤ MOST_PATHS) }
+    ensures book_size { OnOk result (book.new.arena.vertices ≡ book.old.arena.vertices) }
+{
+    let before = book.count_paths();
+    let through = victims(by.rt, by.alloc, book, v, by.count, by.gate)?;
+    refresh(book, &through, steps + 1);
+    let removed = through.ids().len() as u64;
+    Ok(Turnover {
+        formed: book.count_paths() + removed - before,
+        removed,
     })
 }

@@ -35,6 +35,11 @@ pub record IsMarkedAt (old new : Held) (at : ℕ) : Type 0 where
   pub ids : new.ids ≡ swap old.ids old.marked at
   pub marked : new.marked ≡ old.marked + 1
 
+-- the marked id at a place changes places with the last such one, and is marked no more
+pub record IsUnmarkedAt (old new : Held) (at : ℕ) : Type 0 where
+  pub ids : new.ids ≡ swap old.ids at (old.marked - 1)
+  pub marked : new.marked ≡ old.marked - 1
+
 -- the id at a place is taken out, and the last one takes its place, or that of the last marked one, which takes its
 -- place, where the id is marked
 pub record IsTakenAt (old new : Held) (at : ℕ) : Type 0 where

@@ -3,7 +3,7 @@
 ghost use Rattle.std.specs.Prelude.{◌≡◌, ◌≢◌, ℕ, zero, suc, ◌+◌, ◌-◌, ◌*◌, ◌^◌, ◌<◌, ◌≤◌, length, slice_get, slice_index, slice_set, Some, Contains, [], ◌∷◌, ◌++◌, take, drop, OnOk, OnErr, IfOk};
 ghost use Rattle.id_pool.specs.Blocks.{IsStanding, room_of};
 ghost use Rattle.id_pool.specs.Heads.{Near, Far, shape, far_of, IsOneMore, IsPlacedInPool, IsMoved, held_of, ids_of, len_of, mark_of};
-ghost use Rattle.id_pool.specs.Lists.{IsMarkedAt, IsTakenAt, no_ids};
+ghost use Rattle.id_pool.specs.Lists.{IsMarkedAt, IsUnmarkedAt, IsTakenAt, no_ids};
 
 use crate::blocks::{Blocks, LEVELS, room};
 use apsp_model::Memory;
@@ -207,6 +207,46 @@ impl Head {
         blocks.ids[start + first] = blocks.ids[start + at];
         blocks.ids[start + at] = id;
         self.mark += 1;
+    }
+
+    /// Takes the mark from the id at a place, which changes places with the last marked one.
+    #[inline(always)]
+    pub(crate) fn unmark_at(&mut self, blocks: &mut Blocks, at: usize)
+        requires placed { IsPlacedInPool blocks.old.ids.items blocks.old.free (shape self.old) }
+        requires marked { at < mark_of (shape self.old) }
+        ensures moved { IsMoved blocks.old.ids.items blocks.old.free
+            (shape self.old) blocks.new.ids.items blocks.new.free (shape self.new) }
+        ensures unmarked { IsUnmarkedAt (held_of blocks.old.ids.items (shape self.old))
+            (held_of blocks.new.ids.items (shape self.new)) at }
+    {
+        if self.len > 3 {
+            self.unmark_far(blocks, at);
+            return;
+        }
+        let last = self.mark as usize - 1;
+        let id = self.few[at];
+        self.few[at] = self.few[last];
+        self.few[last] = id;
+        self.mark -= 1;
+    }
+
+    /// Takes the mark from an id of a block.
+    fn unmark_far(&mut self, blocks: &mut Blocks, at: usize)
+        requires placed { IsPlacedInPool blocks.old.ids.items blocks.old.free (far_of self.old) }
+        requires many { 3 < self.old.len }
+        requires marked { at < self.old.mark }
+        ensures moved { IsMoved blocks.old.ids.items blocks.old.free
+            (far_of self.old) blocks.new.ids.items blocks.new.free (far_of self.new) }
+        ensures unmarked { IsUnmarkedAt (held_of blocks.old.ids.items (far_of self.old))
+            (held_of blocks.new.ids.items (far_of self.new)) at }
+        ensures len { self.new.len ≡ self.old.len }
+    {
+        let start = self.place();
+        let last = self.mark as usize - 1;
+        let id = blocks.ids[start + at];
+        blocks.ids[start + at] = blocks.ids[start + last];
+        blocks.ids[start + last] = id;
+        self.mark -= 1;
     }
 
     /// Takes out the id at a place. If it is marked, the last marked one takes its place; the last

@@ -1,7 +1,7 @@
 //! The lists by number.
 
 ghost use Rattle.std.specs.Prelude.{◌≡◌, ℕ, ◌+◌, ◌-◌, ◌<◌, ◌≤◌, [], ◌∷◌, ◌++◌, length, take, slice_get, Some, Contains, OnOk, OnErr};
-ghost use Rattle.id_pool.specs.Lists.{Held, IsChanged, IsMarkedAt, IsTakenAt, no_ids, list_at, ids_at, marked_at};
+ghost use Rattle.id_pool.specs.Lists.{Held, IsChanged, IsMarkedAt, IsUnmarkedAt, IsTakenAt, no_ids, list_at, ids_at, marked_at};
 
 use crate::blocks::Blocks;
 use crate::head::{Head, add_empty};
@@ -124,6 +124,20 @@ impl Lists {
     {
         let head = &mut self.heads[list];
         head.mark_at(&mut self.blocks, at);
+    }
+
+    /// Takes the mark from the marked id at a place, which changes places with the last marked one, in
+    /// constant time.
+    #[inline(always)]
+    pub fn unmark_at(&mut self, list: usize, at: usize)
+        requires inside { list < length self.old }
+        requires marked { at < marked_at self.old list }
+        ensures only { IsChanged self.old self.new list }
+        ensures unmarked { IsUnmarkedAt (list_at self.old list) (list_at self.new list) at }
+        ensures most { marked_at self.old list ≤ length (ids_at self.old list) }
+    {
+        let head = &mut self.heads[list];
+        head.unmark_at(&mut self.blocks, at);
     }
 
     /// Takes out the id at a place, in constant time. If it is marked, the last marked one takes its

@@ -2,7 +2,7 @@
 use Rattle.std.specs.Prelude.{ℕ, List, [], ◌∷◌}
 use Rattle.std.specs.FinMap as map
 use Rattle.apsp_model.specs.Star.{Star}
-use Rattle.apsp_model.specs.Command.{Command, Update}
+use Rattle.apsp_model.specs.Command.{Command, Star_update}
 
 -- a star: its vertex, and its edges with their weights
 abbrev pub Row : Type 0
@@ -14,7 +14,7 @@ star_from n r = record { vertices = n; vertex = r.0; edges = map.from_entries r.
 -- the updates by these stars on n vertices
 abbrev pub updates : ℕ → List Row → List Command
 updates n [] = []
-updates n (r ∷ rs) = Update (star_from n r) ∷ updates n rs
+updates n (r ∷ rs) = Star_update (star_from n r) ∷ updates n rs
 
 -- the edge 0 2 is least until the way 0 1 2 appears
 abbrev pub two_stars : List Row
@@ -48,3 +48,7 @@ one_edge = (1, ((0, 1), 3) ∷ []) ∷ (0, ((0, 1), 2) ∷ []) ∷ (0, ((0, 1), 
 -- two edges of the greatest weight
 abbrev pub heaviest : List Row
 heaviest = (1, ((0, 1), 4294967295) ∷ ((1, 2), 4294967295) ∷ []) ∷ []
+
+-- edges of weight 0 alone, two of them a cycle
+abbrev pub weightless : List Row
+weightless = (1, ((0, 1), 0) ∷ ((1, 0), 0) ∷ ((1, 2), 0) ∷ []) ∷ (0, ((0, 2), 0) ∷ []) ∷ []

@@ -4,12 +4,12 @@
 #![tactic(auto)]
 
 ghost use Rattle.std.specs.Prelude.{◌≡◌, ℕ, ◌↔◌, Bool, true, false, List, [], ◌∷◌, Contains};
-ghost use Rattle.apsp_model.specs.Command.{graph_of};
+ghost use Rattle.apsp_model.specs.Command.{graph_of, Mend, Grow_update};
 ghost use Rattle.apsp_model.specs.Counts.{CountsAre};
 ghost use Rattle.apsp_model.specs.Kept.{HasBirth, IsHistorical, IsKept};
 ghost use Rattle.apsp_model.specs.Least.{HasNoWalk, IsLeast};
 ghost use Rattle.apsp_model.specs.Walk.{weight_of};
-ghost use Rattle.model_rows.specs.Networks.{updates, two_stars, way_closed, diamond, shortcut, halves, there_and_back, one_edge, heaviest};
+ghost use Rattle.model_rows.specs.Networks.{updates, two_stars, way_closed, diamond, shortcut, halves, there_and_back, one_edge, heaviest, weightless};
 
 /// The edge 0 2 of weight 9 was least once. It stays historical when the way 0 1 2 of weight 7 appears, with its birth,
 /// and the way is kept.
@@ -98,6 +98,43 @@ pub fn the_greatest_weights_add_up()
     ensures itself { IsLeast (graph_of 3 (updates 3 heaviest)) 2 2 (2 ∷ []) }
     ensures nothing { weight_of (graph_of 3 (updates 3 heaviest)) (2 ∷ []) ≡ 0 }
     ensures none { HasNoWalk (graph_of 3 (updates 3 heaviest)) 2 0 }
+{}
+
+/// Where all weighs 0, the walk with fewer edges is least, and a cycle adds nothing: it is no path, and is not kept.
+pub fn of_walks_of_weight_0_the_fewest_edges_are_least()
+    ensures least { IsLeast (graph_of 3 (updates 3 weightless)) 0 2 (0 ∷ 2 ∷ []) }
+    ensures weight { weight_of (graph_of 3 (updates 3 weightless)) (0 ∷ 1 ∷ 2 ∷ []) ≡ 0 }
+    ensures cycle { IsLeast (graph_of 3 (updates 3 weightless)) 0 0 (0 ∷ []) }
+    ensures kept { (p : List ℕ) → IsKept 3 false (updates 3 weightless) p
+        ↔ Contains
+        ((2 ∷ []) ∷ (1 ∷ []) ∷ (0 ∷ []) ∷ (1 ∷ 2 ∷ []) ∷ (0 ∷ 2 ∷ []) ∷ (0 ∷ 1 ∷ []) ∷ (1 ∷ 0 ∷ [])
+        ∷ (0 ∷ 1 ∷ 2 ∷ []) ∷ (1 ∷ 0 ∷ 2 ∷ []) ∷ []) p }
+    ensures birth { HasBirth 3 false (updates 3 weightless) (0 ∷ 2 ∷ []) 1 }
+    ensures counts { CountsAre 3 false (updates 3 weightless)
+        (record { updates = 2; steps = 2; paths = 6; historical = 4; formed = 5; removed = 0 }) }
+{}
+
+/// A mend forgets that the edge 0 2 was least once. All births are that of the mend, which is a step and no update, and
+/// the counts of the latest update stand.
+pub fn a_mend_forgets_what_was_least()
+    ensures kept { (p : List ℕ) → IsKept 3 false (Mend ∷ updates 3 two_stars) p
+        ↔ Contains
+        ((2 ∷ []) ∷ (1 ∷ []) ∷ (0 ∷ []) ∷ (1 ∷ 2 ∷ []) ∷ (0 ∷ 2 ∷ []) ∷ (0 ∷ 1 ∷ []) ∷ (0 ∷ 1 ∷ 2 ∷ []) ∷ []) p }
+    ensures forgotten { ¬ IsHistorical 3 false (Mend ∷ updates 3 two_stars) (0 ∷ 2 ∷ []) }
+    ensures birth { HasBirth 3 false (Mend ∷ updates 3 two_stars) (0 ∷ 2 ∷ []) 3 }
+    ensures counts { CountsAre 3 false (Mend ∷ updates 3 two_stars)
+        (record { updates = 2; steps = 3; paths = 4; historical = 3; formed = 3; removed = 1 }) }
+{}
+
+/// A grow adds the single vertex 3, keeps each birth, and forms and removes nothing.
+pub fn a_grow_keeps_births()
+    ensures kept { (p : List ℕ) → IsKept 3 false (Grow_update 4 ∷ updates 3 two_stars) p
+        ↔ Contains
+        ((3 ∷ []) ∷ (2 ∷ []) ∷ (1 ∷ []) ∷ (0 ∷ []) ∷ (1 ∷ 2 ∷ []) ∷ (0 ∷ 2 ∷ []) ∷ (0 ∷ 1 ∷ []) ∷ (0 ∷ 1 ∷ 2 ∷ []) ∷ []) p }
+    ensures stays { IsHistorical 3 false (Grow_update 4 ∷ updates 3 two_stars) (0 ∷ 2 ∷ []) }
+    ensures birth { HasBirth 3 false (Grow_update 4 ∷ updates 3 two_stars) (0 ∷ 2 ∷ []) 1 }
+    ensures counts { CountsAre 3 false (Grow_update 4 ∷ updates 3 two_stars)
+        (record { updates = 3; steps = 3; paths = 4; historical = 4; formed = 0; removed = 0 }) }
 {}
 
 /// Before any update the single vertices are kept, with birth 0, and all counts are 0.

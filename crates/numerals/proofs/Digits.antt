@@ -1,4 +1,5 @@
--- The value of digits, as far as they are read: for `number_of` and its loop `value_of`; what is cited of numbers elsewhere.
+-- The value of digits, as far as they are read: for `number_of` and its loop `value_of`; what is cited of numbers
+-- elsewhere.
 use Rattle.std.specs.Prelude.{◌≡◌, ℕ, zero, suc, ◌+◌, ◌-◌, ◌*◌, ◌^◌, ◌<◌, ◌≤◌, ◌&&◌, ◌||◌, ◌==◌, not, Some, None, nat_le, Bool, true, false, cond, List, [], ◌∷◌, length, take, slice_index, refl}
 use Rattle.std.specs.Char.{digit_value}
 use Rattle.std.specs.List.{list_all}
@@ -19,7 +20,8 @@ pub record IsDigit (b : ℕ) : Type 0 where
 
 -- a byte whose value as a digit is below 10 is that of a digit
 pub digit_from_value : (b : ℕ) → digit_value b < 10 → IsDigit b
-digit_from_value b h = record { low = grind (arith, nat_tests); high = grind (arith, nat_tests); value = grind (arith, nat_tests) }
+digit_from_value b h =
+    record { low = grind (arith, nat_tests); high = grind (arith, nat_tests); value = grind (arith, nat_tests) }
 
 value_from_digit : (b : ℕ) → is_digit b ≡ true → digit_value b < 10
 value_from_digit b h = grind (arith, nat_tests)
@@ -31,7 +33,11 @@ both false b h = cc
 -- bytes that are tested to be digits have values as digits
 pub all_digits : (w : List ℕ) → list_all is_digit w ≡ true → AllDigits 10 w
 all_digits [] h = tt
-all_digits (b ∷ bs) h = (value_from_digit b (both (is_digit b) (list_all is_digit bs) h).0, all_digits bs (both (is_digit b) (list_all is_digit bs) h).1)
+all_digits (b ∷ bs) h = (
+  value_from_digit b (both (is_digit b) (list_all is_digit bs) h).0,
+  all_digits bs
+      (both (is_digit b) (list_all is_digit bs) h).1,
+)
 
 digit_test : (b : ℕ) → digit_value b < 10 → is_digit b ≡ true
 digit_test b h = let d = digit_from_value b h in at d.low d.high
@@ -61,10 +67,12 @@ pub record IsNextDigit (w : List ℕ) (i value : ℕ) : Type 0 where
   pub next : value * 10 + (slice_index w i - 48) ≡ digits_value 10 (take (i + 1) w)
 
 -- behind the value of the first i of few digits stands the next one
-pub next_digit : (w : List ℕ) (i value : ℕ) → AreFewDigits w → i < length w → value ≡ digits_value 10 (take i w) → IsNextDigit w i value
+pub next_digit : (w : List ℕ) (i value : ℕ) → AreFewDigits w → i < length w → value ≡ digits_value 10 (take i w)
+    → IsNextDigit w i value
 next_digit w i value few below is =
     let digit : IsDigit (slice_index w i) = digit_from_value (slice_index w i) (digit_at w i few.digits below) in
-    let bound : digits_value 10 (take i w) < 10 ^ length (take i w) = digits_value-lt 10 (take i w) (digits_before w i few.digits) in
+    let bound : digits_value 10 (take i w) < 10 ^ length (take i w) =
+    digits_value-lt 10 (take i w) (digits_before w i few.digits) in
     let size : length (take i w) ≤ 18 = omega (arith, length-take i w, few.few, below) in
     let power : 10 ^ length (take i w) ≤ 10 ^ 18 = pow-le-pow_right {n = 10} (omega arith) size in
     record {
@@ -83,7 +91,9 @@ pub record IsTested (most : ℕ) (w : List ℕ) : Type 0 where
 pub tested : (most : ℕ) (w : List ℕ) → is_number most w ≡ true → IsTested most w
 tested most [] h = cc
 tested most (b ∷ bs) h =
-    let parts = both (nat_le (length (b ∷ bs)) most) ((length (b ∷ bs) == 1 || not (b == 48)) && list_all is_digit (b ∷ bs)) h in
+    let parts =
+    both (nat_le (length (b ∷ bs)) most) ((length (b ∷ bs) == 1 || not (b == 48)) && list_all is_digit (b ∷ bs)) h
+    in
     let more = both (length (b ∷ bs) == 1 || not (b == 48)) (list_all is_digit (b ∷ bs)) parts.1 in
     record {
       some = omega arith;
@@ -103,7 +113,8 @@ pub few_digits : (most : ℕ) (w : List ℕ) → most ≤ MOST_U64_DIGITS → is
 few_digits most w fits h = let t = tested most w h in record { digits = t.digits; few = omega (arith, t.few, fits) }
 
 -- where all digits were read, their value is the number of the word
-pub number_is : (most : ℕ) (w : List ℕ) (value : ℕ) → is_number most w ≡ true → value ≡ digits_value 10 w → Some value ≡ number_of most w
+pub number_is : (most : ℕ) (w : List ℕ) (value : ℕ) → is_number most w ≡ true → value ≡ digits_value 10 w
+    → Some value ≡ number_of most w
 unfolding number_of
 number_is most w value test e = ap (λ n. Some n) e ∙ ap (λ c. cond c (Some (digits_value 10 w)) None) (sym test)
 

@@ -16,7 +16,8 @@ use Rattle.pair_heaps.proofs.Sifted.{heap_same}
 use Rattle.pair_heaps.proofs.Places.{same_pair, ends_inside, at_ends, IsWritten, written}
 
 -- the order of two ids depends on their lists and weights alone
-id_cmp_same : (a b : Arena) (p q : ℕ) → list_of b p ≡ list_of a p → weight_of_id b p ≡ weight_of_id a p → list_of b q ≡ list_of a q → weight_of_id b q ≡ weight_of_id a q → id_cmp b p q ≡ id_cmp a p q
+id_cmp_same : (a b : Arena) (p q : ℕ) → list_of b p ≡ list_of a p → weight_of_id b p ≡ weight_of_id a p
+    → list_of b q ≡ list_of a q → weight_of_id b q ≡ weight_of_id a q → id_cmp b p q ≡ id_cmp a p q
 id_cmp_same a b p q lp wp lq wq =
     ap (λ w. path_cmp w (list_of b p) (weight_of_id b q) (list_of b q)) wp
     ∙ ap (λ l. path_cmp (weight_of_id a p) l (weight_of_id b q) (list_of b q)) lp
@@ -27,14 +28,20 @@ pub fits_agree : (h : Heaps) (a b : Arena) → HeapsFit h a → AgreeOnHeapIds h
 fits_agree h a b fits agree = record {
   vertices = agree.vertices ∙ fits.vertices;
   live = λ x y id c. agree.live id (x, y, c);
-  ends = λ x y id c. (ap first (agree.lists id (x, y, c)) ∙ (fits.ends x y id c).0, ap last (agree.lists id (x, y, c)) ∙ (fits.ends x y id c).1);
+  ends = λ x y id c. (
+    ap first (agree.lists id (x, y, c)) ∙ (fits.ends x y id c).0,
+    ap last (agree.lists id (x, y, c))
+        ∙ (fits.ends x y id c).1,
+  );
   arranged = λ x y. heap_same a b (held_at h x y)
-      (λ p q c d. id_cmp_same a b p q (agree.lists p (x, y, c)) (agree.weights p (x, y, c)) (agree.lists q (x, y, d)) (agree.weights q (x, y, d)))
+      (λ p q c d. id_cmp_same a b p q (agree.lists p (x, y, c)) (agree.weights p (x, y, c)) (agree.lists q (x, y, d))
+      (agree.weights q (x, y, d)))
       (fits.arranged x y);
 }
 
 -- heaps that hold the same ids of each pair fit the same arenas
-pub fits_same : (h k : Heaps) (a : Arena) → k.vertices ≡ h.vertices → ((x y : ℕ) → held_at k x y ≡ held_at h x y) → HeapsFit h a → HeapsFit k a
+pub fits_same : (h k : Heaps) (a : Arena) → k.vertices ≡ h.vertices → ((x y : ℕ) → held_at k x y ≡ held_at h x y)
+    → HeapsFit h a → HeapsFit k a
 fits_same h k a vertices same fits = record {
   vertices = fits.vertices ∙ sym vertices;
   live = λ x y id c. fits.live x y id (subst (λ ids. Contains ids id) (same x y) c);
@@ -52,7 +59,9 @@ fits_empty h a vertices none = record {
 }
 
 -- what the changed pair has to have
-pub fits_changed : (h k : Heaps) (a : Arena) (x y : ℕ) → HeapsFit h a → ChangesOnly h k x y → ((id : ℕ) → Contains (held_at k x y) id → IsLive a id × HasEnds a id x y) → IsHeap a (held_at k x y) → HeapsFit k a
+pub fits_changed : (h k : Heaps) (a : Arena) (x y : ℕ) → HeapsFit h a → ChangesOnly h k x y
+    → ((id : ℕ) → Contains (held_at k x y) id → IsLive a id × HasEnds a id x y) → IsHeap a (held_at k x y)
+    → HeapsFit k a
 fits_changed h k a x y fits only here arranged = record {
   vertices = fits.vertices ∙ sym only.vertices;
   live = λ u v id c. elim (same_pair x y u v) [
@@ -60,11 +69,13 @@ fits_changed h k a x y fits only here arranged = record {
     | inr other ↦ fits.live u v id (at_other u v id other c)
   ];
   ends = λ u v id c. elim (same_pair x y u v) [
-    | inl one ↦ subst (λ w. HasEnds a id w v) (sym one.0) (subst (λ w. HasEnds a id x w) (sym one.1) (here id (at_one u v id one.0 one.1 c)).1)
+    | inl one ↦ subst (λ w. HasEnds a id w v) (sym one.0)
+        (subst (λ w. HasEnds a id x w) (sym one.1) (here id (at_one u v id one.0 one.1 c)).1)
     | inr other ↦ fits.ends u v id (at_other u v id other c)
   ];
   arranged = λ u v. elim (same_pair x y u v) [
-    | inl one ↦ subst (λ w. IsHeap a (held_at k w v)) (sym one.0) (subst (λ w. IsHeap a (held_at k x w)) (sym one.1) arranged)
+    | inl one ↦ subst (λ w. IsHeap a (held_at k w v)) (sym one.0)
+        (subst (λ w. IsHeap a (held_at k x w)) (sym one.1) arranged)
     | inr other ↦ subst (IsHeap a) (sym (ap (λ p. p.held) (only.others u v other))) (fits.arranged u v)
   ];
 }
@@ -77,27 +88,33 @@ fits_changed h k a x y fits only here arranged = record {
 
 -- ---- the pair of a path
 
-pub ends_in_rows : (h : Heaps) (a : Arena) (id x y : ℕ) → HeapsFit h a → IsArena a → IsLive a id → HasEnds a id x y → (x < h.vertices) × (y < h.vertices)
+pub ends_in_rows : (h : Heaps) (a : Arena) (id x y : ℕ) → HeapsFit h a → IsArena a → IsLive a id → HasEnds a id x y
+    → (x < h.vertices) × (y < h.vertices)
 ends_in_rows h a id x y fits lawful live ends =
     let inside : (x < a.vertices) × (y < a.vertices) = ends_inside a id x y lawful live ends in
     let as_many : a.vertices ≡ h.vertices = fits.vertices in
     (omega (arith, inside.0), omega (arith, inside.1))
 
 -- the ids that were in the vector are live
-pub live_before : (h k : Heaps) (a : Arena) (x y : ℕ) (p q : Pair) → IsWritten h k x y p q → HeapsFit h a → (id : ℕ) → Contains p.held id → IsLive a id
+pub live_before : (h k : Heaps) (a : Arena) (x y : ℕ) (p q : Pair) → IsWritten h k x y p q → HeapsFit h a → (id : ℕ)
+    → Contains p.held id → IsLive a id
 live_before h k a x y p q w fits id c = fits.live x y id (subst (λ (r : Pair). Contains r.held id) (sym w.was) c)
 
-pub ends_before : (h k : Heaps) (a : Arena) (x y : ℕ) (p q : Pair) → IsWritten h k x y p q → HeapsFit h a → (id : ℕ) → Contains p.held id → HasEnds a id x y
+pub ends_before : (h k : Heaps) (a : Arena) (x y : ℕ) (p q : Pair) → IsWritten h k x y p q → HeapsFit h a → (id : ℕ)
+    → Contains p.held id → HasEnds a id x y
 ends_before h k a x y p q w fits id c = fits.ends x y id (subst (λ (r : Pair). Contains r.held id) (sym w.was) c)
 
-pub arranged_before : (h k : Heaps) (a : Arena) (x y : ℕ) (p q : Pair) → IsWritten h k x y p q → HeapsFit h a → IsHeap a p.held
+pub arranged_before : (h k : Heaps) (a : Arena) (x y : ℕ) (p q : Pair) → IsWritten h k x y p q → HeapsFit h a
+    → IsHeap a p.held
 arranged_before h k a x y p q w fits = subst (λ (r : Pair). IsHeap a r.held) w.was (fits.arranged x y)
 
 -- a held id is in the vector of its pair
-pub held_before : (h k : Heaps) (a : Arena) (id x y : ℕ) (p q : Pair) → IsWritten h k x y p q → HeapsFit h a → HasEnds a id x y → IsHeld h id → Contains p.held id
+pub held_before : (h k : Heaps) (a : Arena) (id x y : ℕ) (p q : Pair) → IsWritten h k x y p q → HeapsFit h a
+    → HasEnds a id x y → IsHeld h id → Contains p.held id
 held_before h k a id x y p q w fits ends held =
     subst (λ (r : Pair). Contains r.held id) w.was
-    (at_ends a id held.0 held.1 (λ u v. Contains (held_at h u v) id) (fits.ends held.0 held.1 id held.2) held.2 x y ends)
+    (at_ends a id held.0 held.1 (λ u v. Contains (held_at h u v) id) (fits.ends held.0 held.1 id held.2) held.2 x y
+    ends)
 
 -- the pair that stands at a place of the rows
 pub record IsPairOf (h : Heaps) (a : Arena) (x y : ℕ) (p : Pair) : Type 0 where
@@ -107,7 +124,9 @@ pub record IsPairOf (h : Heaps) (a : Arena) (x y : ℕ) (p : Pair) : Type 0 wher
   pub held : (id : ℕ) → HasEnds a id x y → IsHeld h id → Contains p.held id
   pub fresh : (id : ℕ) → (IsHeld h id → ⊥) → Contains p.held id → ⊥
 
-pub pair_of_place : (n : ℕ) (items : List Pair) (h : Heaps) (a : Arena) (x y k : ℕ) (v : Pair) → heaps_of n items ≡ h → IsHeaps (heaps_of n items) → HeapsFit h a → x < h.vertices → y < h.vertices → k ≡ place_of h.vertices x y → v ≡ get_or items k v → IsPairOf h a x y v
+pub pair_of_place : (n : ℕ) (items : List Pair) (h : Heaps) (a : Arena) (x y k : ℕ) (v : Pair) → heaps_of n items ≡ h
+    → IsHeaps (heaps_of n items) → HeapsFit h a → x < h.vertices → y < h.vertices → k ≡ place_of h.vertices x y
+    → v ≡ get_or items k v → IsPairOf h a x y v
 pair_of_place n items h a x y k v is sound fits x_in y_in same at =
     let w : IsWritten h (heaps_of n (set items k v)) x y v v = written n items h x y k v v is sound x_in y_in same at in
     record {
@@ -119,7 +138,9 @@ pair_of_place n items h a x y k v is sound fits x_in y_in same at =
     }
 
 -- heaps that fit after one vector is replaced, where each id of it was there or is a live one of the pair
-pub fits_written : (h k : Heaps) (a : Arena) (id x y : ℕ) (p q : Pair) → IsWritten h k x y p q → HeapsFit h a → IsLive a id → HasEnds a id x y → ((r : ℕ) → Contains q.held r → Contains p.held r ⊎ (r ≡ id)) → IsHeap a q.held → HeapsFit k a
+pub fits_written : (h k : Heaps) (a : Arena) (id x y : ℕ) (p q : Pair) → IsWritten h k x y p q → HeapsFit h a
+    → IsLive a id → HasEnds a id x y → ((r : ℕ) → Contains q.held r → Contains p.held r ⊎ (r ≡ id)) → IsHeap a q.held
+    → HeapsFit k a
 fits_written h k a id x y p q w fits live ends only arranged =
     fits_changed h k a x y fits w.only
     (λ r c. elim (only r (subst (λ (s : Pair). Contains s.held r) w.now c)) [
@@ -135,7 +156,8 @@ pub record IsFreshIn (h : Heaps) (b : Arena) (id : ℕ) : Type 0 where
   pub live : IsLive b id
   pub fresh : IsHeld h id → ⊥
 
-pub fresh_in : (h : Heaps) (a b : Arena) (id : ℕ) (p : Path) → HeapsFit h a → path_at a id ≡ None → b ≡ with_path a id p → IsFreshIn h b id
+pub fresh_in : (h : Heaps) (a b : Arena) (id : ℕ) (p : Path) → HeapsFit h a → path_at a id ≡ None → b ≡ with_path a id p
+    → IsFreshIn h b id
 fresh_in h a b id p fits gone added = subst (λ (m : Arena). IsFreshIn h m id) (sym added) (record {
   fits = fits_agree h a (with_path a id p) fits (record {
     vertices = refl;
@@ -157,4 +179,6 @@ fresh_in h a b id p fits gone added = subst (λ (m : Arena). IsFreshIn h m id) (
     other_key q k apart = grind (arith, nat_tests)
 
     kept : (q : ℕ) → IsHeld h q → path_at (with_path a id p) q ≡ path_at a q
-    kept q held = get-insert nat_cmp_total a.paths id p q ∙ ap (λ b. cond b (Some p) (path_at a q)) (other_key q id (λ same. fresh (subst (IsHeld h) same held)))
+    kept q held =
+        get-insert nat_cmp_total a.paths id p q
+        ∙ ap (λ b. cond b (Some p) (path_at a q)) (other_key q id (λ same. fresh (subst (IsHeld h) same held)))

@@ -19,8 +19,10 @@ AreApart xs = (i j : ℕ) → i < length xs → j < length xs → get_or xs i 0 
 pub once_apart : (xs : List ℕ) → IsOnceEach xs → AreApart xs
 once_apart [] once i j i_in j_in e = absurd (omega arith)
 once_apart (x ∷ xs) once zero zero i_in j_in e = refl
-once_apart (x ∷ xs) once zero (suc j) i_in j_in e = absurd (once.0 (subst (λ y. Contains xs y) (sym e) (Contains-get_or xs j 0 (omega arith))))
-once_apart (x ∷ xs) once (suc i) zero i_in j_in e = absurd (once.0 (subst (λ y. Contains xs y) e (Contains-get_or xs i 0 (omega arith))))
+once_apart (x ∷ xs) once zero (suc j) i_in j_in e =
+    absurd (once.0 (subst (λ y. Contains xs y) (sym e) (Contains-get_or xs j 0 (omega arith))))
+once_apart (x ∷ xs) once (suc i) zero i_in j_in e =
+    absurd (once.0 (subst (λ y. Contains xs y) e (Contains-get_or xs i 0 (omega arith))))
 once_apart (x ∷ xs) once (suc i) (suc j) i_in j_in e = ap suc (once_apart xs once.1 i j (omega arith) (omega arith) e)
 
 pub apart_once : (xs : List ℕ) → AreApart xs → IsOnceEach xs
@@ -31,7 +33,8 @@ apart_once (x ∷ xs) apart = (
       let same : get_or (x ∷ xs) 0 0 ≡ get_or (x ∷ xs) (suc c.0) 0 = sym (get_or_default xs c.0 0 x inside ∙ c.2) in
       let place : 0 ≡ suc c.0 = apart 0 (suc c.0) (omega arith) (omega arith) same in
       omega arith,
-  apart_once xs (λ i j i_in j_in e. let same : suc i ≡ suc j = apart (suc i) (suc j) (omega arith) (omega arith) e in omega arith),
+  apart_once xs (λ i j i_in j_in e. let same : suc i ≡ suc j = apart (suc i) (suc j) (omega arith) (omega arith) e in
+      omega arith),
 )
 
 apart_swap : (xs : List ℕ) (a b : ℕ) → a < length xs → b < length xs → AreApart xs → AreApart (swap xs a b)
@@ -45,7 +48,9 @@ apart_swap xs a b a_in b_in apart i j i_in j_in e =
 
     -- the place that the entry came from
     Source : ℕ → Type 0
-    Source n = (m : ℕ) × (m < length xs) × (get_or (swap xs a b) n 0 ≡ get_or xs m 0) × (((n ≡ a) × (m ≡ b)) ⊎ (((n ≡ b) × (m ≡ a)) ⊎ ((n ≢ a) × (n ≢ b) × (m ≡ n))))
+    Source n =
+        (m : ℕ) × (m < length xs) × (get_or (swap xs a b) n 0 ≡ get_or xs m 0)
+        × (((n ≡ a) × (m ≡ b)) ⊎ (((n ≡ b) × (m ≡ a)) ⊎ ((n ≢ a) × (n ≢ b) × (m ≡ n))))
 
     from : (n : ℕ) → n < length xs → Source n
     from n inside = elim (cases_eq n a) [
@@ -59,7 +64,8 @@ apart_swap xs a b a_in b_in apart i j i_in j_in e =
     go : Source i → Source j → i ≡ j
     go p q = let same : p.0 ≡ q.0 = apart p.0 q.0 p.1 q.1 (sym p.2 ∙ e ∙ q.2) in cases p.0 q.0 same p.3 q.3
       where
-        cases : (m n : ℕ) → m ≡ n → ((i ≡ a) × (m ≡ b)) ⊎ (((i ≡ b) × (m ≡ a)) ⊎ ((i ≢ a) × (i ≢ b) × (m ≡ i))) → ((j ≡ a) × (n ≡ b)) ⊎ (((j ≡ b) × (n ≡ a)) ⊎ ((j ≢ a) × (j ≢ b) × (n ≡ j))) → i ≡ j
+        cases : (m n : ℕ) → m ≡ n → ((i ≡ a) × (m ≡ b)) ⊎ (((i ≡ b) × (m ≡ a)) ⊎ ((i ≢ a) × (i ≢ b) × (m ≡ i)))
+            → ((j ≡ a) × (n ≡ b)) ⊎ (((j ≡ b) × (n ≡ a)) ⊎ ((j ≢ a) × (j ≢ b) × (n ≡ j))) → i ≡ j
         cases m n e (inl x) (inl y) = x.0 ∙ sym y.0
         cases m n e (inl x) (inr (inl y)) = x.0 ∙ sym y.1 ∙ sym e ∙ x.1 ∙ sym y.0
         cases m n e (inl x) (inr (inr y)) = absurd (y.1 (sym y.2 ∙ sym e ∙ x.1))
@@ -71,23 +77,29 @@ apart_swap xs a b a_in b_in apart i j i_in j_in e =
         cases m n e (inr (inr x)) (inr (inr y)) = sym x.2 ∙ e ∙ y.2
 
 pub once_moved : (xs ys : List ℕ) → IsPermutation xs ys → IsOnceEach xs → IsOnceEach ys
-once_moved xs ys moved once = IsPermutation-keeps xs IsOnceEach once (λ l i j i_in j_in h. apart_once (swap l i j) (apart_swap l i j i_in j_in (once_apart l h))) ys moved
+once_moved xs ys moved once =
+    IsPermutation-keeps xs IsOnceEach once
+    (λ l i j i_in j_in h. apart_once (swap l i j) (apart_swap l i j i_in j_in (once_apart l h))) ys moved
 
 -- ---- with one more, and with one less
 
-pub with_moved : (id : ℕ) (old new : List ℕ) → IsPermutation (old ++ id ∷ []) new → IsOnceEach old → (Contains old id → ⊥) → IsWith id old new
+pub with_moved : (id : ℕ) (old new : List ℕ) → IsPermutation (old ++ id ∷ []) new → IsOnceEach old
+    → (Contains old id → ⊥) → IsWith id old new
 with_moved id old new moved once fresh = record {
   ids = λ q. (
-    λ c. elim (Contains-push_cases old id q (Contains-permutation new (old ++ id ∷ []) q (IsPermutation-sym (old ++ id ∷ []) new moved) c)) [
-      | inl before ↦ inl before
-      | inr same ↦ inr (sym same)
-    ],
+    λ c. elim (Contains-push_cases old id q
+        (Contains-permutation new (old ++ id ∷ []) q (IsPermutation-sym (old ++ id ∷ []) new moved) c)) [
+          | inl before ↦ inl before
+          | inr same ↦ inr (sym same)
+        ],
     λ h. Contains-permutation (old ++ id ∷ []) new q moved (elim h [
       | inl before ↦ Contains-append_left old (id ∷ []) q before
       | inr same ↦ Contains-append_right old (id ∷ []) q (0, omega arith, sym same)
     ]),
   );
-  once = once_moved (old ++ id ∷ []) new moved (once_moved (id ∷ old) (old ++ id ∷ []) (IsPermutation-sym (old ++ id ∷ []) (id ∷ old) (IsPermutation-to_front old id)) (fresh, once));
+  once = once_moved (old ++ id ∷ []) new moved
+      (once_moved (id ∷ old) (old ++ id ∷ [])
+      (IsPermutation-sym (old ++ id ∷ []) (id ∷ old) (IsPermutation-to_front old id)) (fresh, once));
 }
 
 pub without_moved : (id : ℕ) (old new : List ℕ) → IsPermutation old (id ∷ new) → IsOnceEach old → IsAllBut id old new
@@ -96,7 +108,8 @@ without_moved id old new moved once =
     record {
       ids = λ q. (
         λ c. (
-          Contains-permutation (id ∷ new) old q (IsPermutation-sym old (id ∷ new) moved) (Contains-append_right (id ∷ []) new q c),
+          Contains-permutation (id ∷ new) old q (IsPermutation-sym old (id ∷ new) moved)
+              (Contains-append_right (id ∷ []) new q c),
           λ same. split.0 (subst (λ y. Contains new y) same c),
         ),
         λ h. elim (contains_cons q id new (Contains-permutation old (id ∷ new) q moved h.0)) [

@@ -12,7 +12,9 @@ use Rattle.path_arena.specs.Arena.{Arena, weight_of_id, list_of, id_cmp}
 use Rattle.pair_heaps.specs.Heaps.{IsIdBelow}
 
 pub id_cmp_total : (a : Arena) → IsTotalOrder (id_cmp a)
-id_cmp_total a = then_total (on_total (weight_of_id a) nat_cmp_total) (then_total (on_total (λ id. hops_of (list_of a id)) nat_cmp_total) (on_total (list_of a) nat_list_cmp_total))
+id_cmp_total a =
+    then_total (on_total (weight_of_id a) nat_cmp_total)
+    (then_total (on_total (λ id. hops_of (list_of a id)) nat_cmp_total) (on_total (list_of a) nat_list_cmp_total))
 
 pub not_below_itself : (a : Arena) (p : ℕ) → IsIdBelow a p p → ⊥
 not_below_itself a p h = let e : id_cmp a p p ≡ Equal = tied_itself (id_cmp_total a) p in cc
@@ -28,8 +30,11 @@ below_from a p m id upto below = go (id_cmp a p id) refl
     go Less e = e
     go Equal e =
         let turned : id_cmp a id p ≡ Equal = (id_cmp_total a).antisymm id p ∙ ap ordering_reverse e in
-        absurd (upto ((id_cmp_total a).antisymm m p ∙ ap ordering_reverse ((id_cmp_total a).congr p id m e ∙ (id_cmp_total a).antisymm id m ∙ ap ordering_reverse below)))
-    go Greater e = absurd (upto ((id_cmp_total a).trans m id p below ((id_cmp_total a).antisymm id p ∙ ap ordering_reverse e)))
+        absurd (upto ((id_cmp_total a).antisymm m p
+        ∙ ap ordering_reverse ((id_cmp_total a).congr p id m e ∙ (id_cmp_total a).antisymm id m
+        ∙ ap ordering_reverse below)))
+    go Greater e =
+        absurd (upto ((id_cmp_total a).trans m id p below ((id_cmp_total a).antisymm id p ∙ ap ordering_reverse e)))
 
 -- m, which is not below id, is not above p
 pub not_below_from : (a : Arena) (p m id : ℕ) → (IsIdBelow a p m → ⊥) → (IsIdBelow a m id → ⊥) → IsIdBelow a p id → ⊥

@@ -3,5 +3,6 @@ pub mod Slots
 pub mod Paths
 pub mod Stores
 pub mod Puts
+pub mod Births
 pub mod Calls
 pub mod Steps

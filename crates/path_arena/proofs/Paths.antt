@@ -73,7 +73,8 @@ live_from_edge a id h edge = let p = parted a id h edge in live_from a id p.path
 
 -- ---- parts that stay
 
-parts_kept : (a b : Arena) (p : Path) (h : HasParts a p) → path_at b h.left ≡ path_at a h.left → path_at b h.right ≡ path_at a h.right → HasParts b p
+parts_kept : (a b : Arena) (p : Path) (h : HasParts a p) → path_at b h.left ≡ path_at a h.left
+    → path_at b h.right ≡ path_at a h.right → HasParts b p
 parts_kept a b p h l r =
     let left : path_of b h.left ≡ path_of a h.left = ap (λ o. unwrap_or o no_path) l in
     let right : path_of b h.right ≡ path_of a h.right = ap (λ o. unwrap_or o no_path) r in
@@ -87,14 +88,21 @@ parts_kept a b p h l r =
       right_live = rw r h.right_live;
       left_list = ap (λ q. q.list) left ∙ h.left_list;
       right_list = ap (λ q. q.list) right ∙ h.right_list;
-      left_lighter = (let e : weight_of_id b h.left ≡ weight_of_id a h.left = ap (λ q. q.weight) left in let k : weight_of_id a h.left ≤ p.weight = h.left_lighter in omega arith);
-      right_lighter = (let e : weight_of_id b h.right ≡ weight_of_id a h.right = ap (λ q. q.weight) right in let k : weight_of_id a h.right ≤ p.weight = h.right_lighter in omega arith);
-      last_edge = (let e : weight_of_id b h.left ≡ weight_of_id a h.left = ap (λ q. q.weight) left in let k : p.weight ≤ weight_of_id a h.left + MOST_WEIGHT = h.last_edge in omega arith);
+      left_lighter =
+          (let e : weight_of_id b h.left ≡ weight_of_id a h.left = ap (λ q. q.weight) left in
+          let k : weight_of_id a h.left ≤ p.weight = h.left_lighter in omega arith);
+      right_lighter =
+          (let e : weight_of_id b h.right ≡ weight_of_id a h.right = ap (λ q. q.weight) right in
+          let k : weight_of_id a h.right ≤ p.weight = h.right_lighter in omega arith);
+      last_edge =
+          (let e : weight_of_id b h.left ≡ weight_of_id a h.left = ap (λ q. q.weight) left in
+          let k : p.weight ≤ weight_of_id a h.left + MOST_WEIGHT = h.last_edge in omega arith);
     }
 
 -- ---- one path more
 
-path_with : (a : Arena) (id : ℕ) (p : Path) → path_at a id ≡ None → (k : ℕ) (q : Path) → IsPath a k q → IsPath (with_path a id p) k q
+path_with : (a : Arena) (id : ℕ) (p : Path) → path_at a id ≡ None → (k : ℕ) (q : Path) → IsPath a k q
+    → IsPath (with_path a id p) k q
 path_with a id p fresh k q is = record {
   inside = is.inside;
   simple = is.simple;
@@ -104,27 +112,37 @@ path_with a id p fresh k q is = record {
   where
     by_kind : IsSingle a k q ⊎ HasParts a q → IsSingle (with_path a id p) k q ⊎ HasParts (with_path a id p) q
     by_kind (inl one) = inl one
-    by_kind (inr h) = inr (parts_kept a (with_path a id p) q h (get_put_other a.paths id p h.left (live_apart a id h.left fresh h.left_live)) (get_put_other a.paths id p h.right (live_apart a id h.right fresh h.right_live)))
+    by_kind (inr h) =
+        inr (parts_kept a (with_path a id p) q h
+        (get_put_other a.paths id p h.left (live_apart a id h.left fresh h.left_live))
+        (get_put_other a.paths id p h.right (live_apart a id h.right fresh h.right_live)))
 
-pub IsArena-with : (a : Arena) (id : ℕ) (p : Path) → IsArena a → path_at a id ≡ None → IsPath a id p → IsArena (with_path a id p)
+pub IsArena-with : (a : Arena) (id : ℕ) (p : Path) → IsArena a → path_at a id ≡ None → IsPath a id p
+    → IsArena (with_path a id p)
 IsArena-with a id p h fresh is = record {
   some = h.some;
   most = h.most;
   as_many = h.as_many;
-  singles = λ v l. get_put_other a.paths id p (vertex_of a v) (live_apart a id (vertex_of a v) fresh (live_from a (vertex_of a v) (single v) (h.singles v l))) ∙ h.singles v l;
+  singles =
+      λ v l. get_put_other a.paths id p (vertex_of a v)
+      (live_apart a id (vertex_of a v) fresh (live_from a (vertex_of a v) (single v) (h.singles v l))) ∙ h.singles v l;
   paths = λ k q e. at_key k q e (cases_eq k id);
 }
   where
-    at_key : (k : ℕ) (q : Path) → path_at (with_path a id p) k ≡ Some q → (k ≡ id) ⊎ (k ≢ id) → IsPath (with_path a id p) k q
+    at_key : (k : ℕ) (q : Path) → path_at (with_path a id p) k ≡ Some q → (k ≡ id) ⊎ (k ≢ id)
+        → IsPath (with_path a id p) k q
     at_key k q e (inl same) =
-        let there : path_at (with_path a id p) id ≡ Some q = subst (λ j. path_at (with_path a id p) j ≡ Some q) same e in
+        let there : path_at (with_path a id p) id ≡ Some q =
+        subst (λ j. path_at (with_path a id p) j ≡ Some q) same e in
         let p_is : p ≡ q = same_path p q (sym (get_put a.paths id p) ∙ there) in
-        subst (λ j. IsPath (with_path a id p) j q) (sym same) (subst (λ r. IsPath (with_path a id p) id r) p_is (path_with a id p fresh id p is))
+        subst (λ j. IsPath (with_path a id p) j q) (sym same)
+        (subst (λ r. IsPath (with_path a id p) id r) p_is (path_with a id p fresh id p is))
     at_key k q e (inr apart) = path_with a id p fresh k q (h.paths k q (sym (get_put_other a.paths id p k apart) ∙ e))
 
 -- ---- one path less
 
-pub IsArena-without : (a : Arena) (id : ℕ) → IsArena a → HasAnEdge a id → IsPartOfNone a id → IsArena (without_path a id)
+pub IsArena-without : (a : Arena) (id : ℕ) → IsArena a → HasAnEdge a id → IsPartOfNone a id
+    → IsArena (without_path a id)
 IsArena-without a id h edge free = record {
   some = h.some;
   most = h.most;
@@ -141,17 +159,22 @@ IsArena-without a id h edge free = record {
         let G : Path → Type 0 = λ q. IsSome q.left in
         false≢true (subst G there edge_there)
 
-    kept : (k : ℕ) (q : Path) → path_at a k ≡ Some q → IsSingle a k q ⊎ HasParts a q → IsSingle (without_path a id) k q ⊎ HasParts (without_path a id) q
+    kept : (k : ℕ) (q : Path) → path_at a k ≡ Some q → IsSingle a k q ⊎ HasParts a q → IsSingle (without_path a id) k q
+        ⊎ HasParts (without_path a id) q
     kept k q e (inl one) = inl one
     kept k q e (inr parts) =
         let of : path_of a k ≡ q = path_of_at a k q e in
         inr (parts_kept a (without_path a id) q parts
-        (get_gone_other a.paths id parts.left (λ same. free.left k (ap (λ r. r.left) of ∙ parts.left_is ∙ ap Some same)))
-        (get_gone_other a.paths id parts.right (λ same. free.right k (ap (λ r. r.right) of ∙ parts.right_is ∙ ap Some same))))
+        (get_gone_other a.paths id parts.left
+        (λ same. free.left k (ap (λ r. r.left) of ∙ parts.left_is ∙ ap Some same)))
+        (get_gone_other a.paths id parts.right
+        (λ same. free.right k (ap (λ r. r.right) of ∙ parts.right_is ∙ ap Some same))))
 
-    at_key : (k : ℕ) (q : Path) → path_at (without_path a id) k ≡ Some q → (k ≡ id) ⊎ (k ≢ id) → IsPath (without_path a id) k q
+    at_key : (k : ℕ) (q : Path) → path_at (without_path a id) k ≡ Some q → (k ≡ id) ⊎ (k ≢ id)
+        → IsPath (without_path a id) k q
     at_key k q e (inl same) =
-        let there : path_at (without_path a id) id ≡ Some q = subst (λ j. path_at (without_path a id) j ≡ Some q) same e in
+        let there : path_at (without_path a id) id ≡ Some q =
+        subst (λ j. path_at (without_path a id) j ≡ Some q) same e in
         absurd (let none : None ≡ Some q = sym (get_gone a.paths id) ∙ there in cc)
     at_key k q e (inr apart) =
         let there : path_at a k ≡ Some q = sym (get_gone_other a.paths id k apart) ∙ e in
@@ -160,13 +183,18 @@ IsArena-without a id h edge free = record {
 
 -- ---- the paths that are made
 
-pub IsPath-edge : (a : Arena) (id u v w birth : ℕ) → IsArena a → u < a.vertices → v < a.vertices → u ≢ v → w ≤ MOST_WEIGHT → IsPath a id (edge_path a u v w birth)
+pub IsPath-edge : (a : Arena) (id u v w birth : ℕ) → IsArena a → u < a.vertices → v < a.vertices → u ≢ v
+    → w ≤ MOST_WEIGHT → IsPath a id (edge_path a u v w birth)
 IsPath-edge a id u v w birth h from to apart most = record {
   inside = λ x c. elim (contains_cons x u (v ∷ []) c) [
     | inl same ↦ subst (λ y. y < a.vertices) same from
-    | inr more ↦ elim (contains_cons x v [] more) [ inl same ↦ subst (λ y. y < a.vertices) same to | inr none ↦ absurd (contains_nil x none) ]
+    | inr more ↦ elim (contains_cons x v [] more)
+        [ inl same ↦ subst (λ y. y < a.vertices) same to | inr none ↦ absurd (contains_nil x none) ]
   ];
-  simple = (λ c. elim (contains_cons u v [] c) [ inl same ↦ apart (sym same) | inr none ↦ contains_nil u none ], (λ c. contains_nil v c, tt));
+  simple = (
+    λ c. elim (contains_cons u v [] c) [ inl same ↦ apart (sym same) | inr none ↦ contains_nil u none ],
+    (λ c. contains_nil v c, tt),
+  );
   weight = omega arith;
   kind = inr (record {
     with_edge = omega arith;
@@ -268,19 +296,25 @@ meeting a l r h j = record {
     same_middle : right_part (list_of a l) ≡ left_part (list_of a r)
     same_middle =
         let left_is : left_of a r ≡ Some pr.parts.left = ap (λ q. q.left) pr.of ∙ pr.parts.left_is in
-        let ids : pl.parts.right ≡ pr.parts.left = same_id pl.parts.right pr.parts.left (sym right_is ∙ j.meets ∙ left_is) in
-        ap right_part list_l ∙ sym pl.parts.right_list ∙ ap (list_of a) ids ∙ pr.parts.left_list ∙ ap left_part (sym list_r)
+        let ids : pl.parts.right ≡ pr.parts.left =
+        same_id pl.parts.right pr.parts.left (sym right_is ∙ j.meets ∙ left_is) in
+        ap right_part list_l ∙ sym pl.parts.right_list ∙ ap (list_of a) ids ∙ pr.parts.left_list
+        ∙ ap left_part (sym list_r)
 
 pub IsPath-joined : (a : Arena) (id l r birth : ℕ) → IsArena a → CanJoin a l r → IsPath a id (joined_path a l r birth)
 IsPath-joined a id l r birth h j = record {
-  inside = λ x c. elim (Contains-append_cases (list_of a l) (to ∷ []) x (let F : List ℕ → Type 0 = λ p. Contains p x in subst F list_is c)) [
-    | inl in_left ↦ m.left.is.inside x (let F : List ℕ → Type 0 = λ p. Contains p x in subst F list_l in_left)
-    | inr at_end ↦ elim (contains_cons x to [] at_end) [
-      | inl same ↦ subst (λ y. y < a.vertices) same (m.right.is.inside to (let F : List ℕ → Type 0 = λ p. Contains p to in subst F list_r (last_stands (list_of a r) to m.ends)))
-      | inr none ↦ absurd (contains_nil x none)
-    ]
-  ];
-  simple = subst IsSimple (sym list_is) (simple-joined m.from to (list_of a l) (list_of a r) m.overlap m.begins (subst IsSimple (sym list_l) m.left.is.simple) (subst IsSimple (sym list_r) m.right.is.simple) m.differ);
+  inside = λ x c. elim (Contains-append_cases (list_of a l) (to ∷ []) x
+      (let F : List ℕ → Type 0 = λ p. Contains p x in subst F list_is c)) [
+        | inl in_left ↦ m.left.is.inside x (let F : List ℕ → Type 0 = λ p. Contains p x in subst F list_l in_left)
+        | inr at_end ↦ elim (contains_cons x to [] at_end) [
+          | inl same ↦ subst (λ y. y < a.vertices) same
+              (m.right.is.inside to (let F : List ℕ → Type 0 = λ p. Contains p to in
+              subst F list_r (last_stands (list_of a r) to m.ends)))
+          | inr none ↦ absurd (contains_nil x none)
+        ]
+      ];
+  simple = subst IsSimple (sym list_is) (simple-joined m.from to (list_of a l) (list_of a r) m.overlap m.begins
+      (subst IsSimple (sym list_l) m.left.is.simple) (subst IsSimple (sym list_r) m.right.is.simple) m.differ);
   weight = fits;
   kind = inr (record {
     with_edge = omega (arith, ap length list_is, length-append (list_of a l) (to ∷ []), long_left);
@@ -317,10 +351,14 @@ IsPath-joined a id l r birth h j = record {
     list_is = m.list birth
 
     -- the overlap weighs no more than either, and r weighs its last edge more
-    weights : (weight_of_id a (overlap_of a l) ≤ weight_of_id a l) × (weight_of_id a (overlap_of a l) ≤ weight_of_id a r) × (weight_of_id a r ≤ weight_of_id a (overlap_of a l) + MOST_WEIGHT)
+    weights : (weight_of_id a (overlap_of a l) ≤ weight_of_id a l)
+        × (weight_of_id a (overlap_of a l) ≤ weight_of_id a r)
+        × (weight_of_id a r ≤ weight_of_id a (overlap_of a l) + MOST_WEIGHT)
     weights =
-        let in_left : m.left.parts.right ≡ m.middle = same_id _ _ (sym (ap (λ q. q.right) m.left.of ∙ m.left.parts.right_is) ∙ m.middle_right) in
-        let in_right : m.right.parts.left ≡ m.middle = same_id _ _ (sym (ap (λ q. q.left) m.right.of ∙ m.right.parts.left_is) ∙ m.middle_left) in
+        let in_left : m.left.parts.right ≡ m.middle =
+        same_id _ _ (sym (ap (λ q. q.right) m.left.of ∙ m.left.parts.right_is) ∙ m.middle_right) in
+        let in_right : m.right.parts.left ≡ m.middle =
+        same_id _ _ (sym (ap (λ q. q.left) m.right.of ∙ m.right.parts.left_is) ∙ m.middle_left) in
         let overlap : overlap_of a l ≡ m.middle = ap (λ o. unwrap_or o 0) m.middle_right in
         let wl : weight_of_id a l ≡ m.left.path.weight = ap (λ q. q.weight) m.left.of in
         let wr : weight_of_id a r ≡ m.right.path.weight = ap (λ q. q.weight) m.right.of in
@@ -334,11 +372,13 @@ IsPath-joined a id l r birth h j = record {
 
     fits : (joined_path a l r birth).weight ≤ hops_of (joined_path a l r birth).list * MOST_WEIGHT
     fits =
-        let longer : hops_of (joined_path a l r birth).list ≡ hops_of (list_of a l) + 1 = omega (arith, ap length list_is, length-append (list_of a l) (to ∷ []), long_left) in
+        let longer : hops_of (joined_path a l r birth).list ≡ hops_of (list_of a l) + 1 =
+        omega (arith, ap length list_is, length-append (list_of a l) (to ∷ []), long_left) in
         let before : weight_of_id a l ≤ hops_of (list_of a l) * MOST_WEIGHT =
         (let k : m.left.path.weight ≤ hops_of m.left.path.list * MOST_WEIGHT = m.left.is.weight in
         let F : List ℕ → Type 0 = λ p. weight_of_id a l ≤ hops_of p * MOST_WEIGHT in
-        subst F (sym list_l) (let wl : weight_of_id a l ≡ m.left.path.weight = ap (λ q. q.weight) m.left.of in omega arith)) in
+        subst F (sym list_l) (let wl : weight_of_id a l ≡ m.left.path.weight = ap (λ q. q.weight) m.left.of in
+        omega arith)) in
         let F : ℕ → Type 0 = λ k. (joined_path a l r birth).weight ≤ k * MOST_WEIGHT in
         subst F (sym longer) (omega (arith, before, weights.0, weights.1, weights.2))
 
@@ -350,19 +390,26 @@ live_added a b id p e = live_from b id p (ap (λ m. path_at m id) e ∙ get_put 
 pub live_still : (a b : Arena) (id : ℕ) (p : Path) (k : ℕ) → b ≡ with_path a id p → IsLive a k → IsLive b k
 live_still a b id p k e live = elim (cases_eq k id) [
   | inl same ↦ (let F : ℕ → Type 0 = λ j. IsLive b j in subst F (sym same) (live_added a b id p e))
-  | inr apart ↦ (let there = live_path a k live in live_from b k there.0 (ap (λ m. path_at m k) e ∙ get_put_other a.paths id p k apart ∙ there.1))
+  | inr apart ↦ (let there = live_path a k live in
+      live_from b k there.0 (ap (λ m. path_at m k) e ∙ get_put_other a.paths id p k apart ∙ there.1))
 ]
 
 -- a path that was added is part of no other
-pub added_is_part_of_none : (a b : Arena) (id : ℕ) (p : Path) → IsArena a → path_at a id ≡ None → (p.left ≡ Some id → ⊥) → (p.right ≡ Some id → ⊥) → b ≡ with_path a id p → IsPartOfNone b id
+pub added_is_part_of_none : (a b : Arena) (id : ℕ) (p : Path) → IsArena a → path_at a id ≡ None → (p.left ≡ Some id → ⊥)
+    → (p.right ≡ Some id → ⊥) → b ≡ with_path a id p → IsPartOfNone b id
 added_is_part_of_none a b id p h fresh not_left not_right e =
-    subst (λ m. IsPartOfNone m id) (sym e) (record { left = λ k is. left k is (cases_eq k id); right = λ k is. right k is (cases_eq k id) })
+    subst (λ m. IsPartOfNone m id) (sym e)
+    (record { left = λ k is. left k is (cases_eq k id); right = λ k is. right k is (cases_eq k id) })
   where
     not_live : (q : Path) (x : ℕ) → IsPath a x q → (q.left ≡ Some id → ⊥) × (q.right ≡ Some id → ⊥)
     not_live q x is = by_kind is.kind
       where
         by_kind : IsSingle a x q ⊎ HasParts a q → (q.left ≡ Some id → ⊥) × (q.right ≡ Some id → ⊥)
-        by_kind (inl one) = (λ l. absurd (let n : None ≡ Some id = sym (ap (λ r. r.left) one.3) ∙ l in cc), λ l. absurd (let n : None ≡ Some id = sym (ap (λ r. r.right) one.3) ∙ l in cc))
+        by_kind (inl one) = (
+          λ l. absurd (let n : None ≡ Some id = sym (ap (λ r. r.left) one.3) ∙ l in cc),
+          λ l. absurd
+              (let n : None ≡ Some id = sym (ap (λ r. r.right) one.3) ∙ l in cc),
+        )
         by_kind (inr parts) = (
           λ l. live_apart a id parts.left fresh parts.left_live (same_id parts.left id (sym parts.left_is ∙ l)),
           λ l. live_apart a id parts.right fresh parts.right_live (same_id parts.right id (sym parts.right_is ∙ l)),
@@ -372,22 +419,38 @@ added_is_part_of_none a b id p h fresh not_left not_right e =
     other : (k : ℕ) → (k ≢ id) → ((path_of a k).left ≡ Some id → ⊥) × ((path_of a k).right ≡ Some id → ⊥)
     other k apart = go (path_at a k) refl
       where
-        go : (o : Option Path) → path_at a k ≡ o → ((path_of a k).left ≡ Some id → ⊥) × ((path_of a k).right ≡ Some id → ⊥)
-        go None f = (λ l. (let n : None ≡ Some id = sym (ap (λ r. (unwrap_or r no_path).left) f) ∙ l in cc), λ l. (let n : None ≡ Some id = sym (ap (λ r. (unwrap_or r no_path).right) f) ∙ l in cc))
+        go : (o : Option Path) → path_at a k ≡ o → ((path_of a k).left ≡ Some id → ⊥)
+            × ((path_of a k).right ≡ Some id → ⊥)
+        go None f = (
+          λ l. (let n : None ≡ Some id = sym (ap (λ r. (unwrap_or r no_path).left) f) ∙ l in cc),
+          λ l.
+              (let n : None ≡ Some id = sym (ap (λ r. (unwrap_or r no_path).right) f) ∙ l in cc),
+        )
         go (Some q) f =
-            let no_part = not_live q k (h.paths k q f) in
-            (λ l. no_part.0 (sym (ap (λ r. (unwrap_or r no_path).left) f) ∙ l), λ l. no_part.1 (sym (ap (λ r. (unwrap_or r no_path).right) f) ∙ l))
+            let no_part = not_live q k (h.paths k q f) in (
+              λ l. no_part.0 (sym (ap (λ r. (unwrap_or r no_path).left) f) ∙ l),
+              λ l. no_part.1
+                  (sym (ap (λ r. (unwrap_or r no_path).right) f) ∙ l),
+            )
 
     left : (k : ℕ) → left_of (with_path a id p) k ≡ Some id → (k ≡ id) ⊎ (k ≢ id) → ⊥
-    left k is (inl same) = not_left (sym (ap (λ q. q.left) (path_of_at (with_path a id p) id p (get_put a.paths id p))) ∙ ap (left_of (with_path a id p)) (sym same) ∙ is)
-    left k is (inr apart) = (other k apart).0 (sym (ap (λ o. (unwrap_or o no_path).left) (get_put_other a.paths id p k apart)) ∙ is)
+    left k is (inl same) =
+        not_left (sym (ap (λ q. q.left) (path_of_at (with_path a id p) id p (get_put a.paths id p)))
+        ∙ ap (left_of (with_path a id p)) (sym same) ∙ is)
+    left k is (inr apart) =
+        (other k apart).0 (sym (ap (λ o. (unwrap_or o no_path).left) (get_put_other a.paths id p k apart)) ∙ is)
 
     right : (k : ℕ) → right_of (with_path a id p) k ≡ Some id → (k ≡ id) ⊎ (k ≢ id) → ⊥
-    right k is (inl same) = not_right (sym (ap (λ q. q.right) (path_of_at (with_path a id p) id p (get_put a.paths id p))) ∙ ap (right_of (with_path a id p)) (sym same) ∙ is)
-    right k is (inr apart) = (other k apart).1 (sym (ap (λ o. (unwrap_or o no_path).right) (get_put_other a.paths id p k apart)) ∙ is)
+    right k is (inl same) =
+        not_right (sym (ap (λ q. q.right) (path_of_at (with_path a id p) id p (get_put a.paths id p)))
+        ∙ ap (right_of (with_path a id p)) (sym same) ∙ is)
+    right k is (inr apart) =
+        (other k apart).1 (sym (ap (λ o. (unwrap_or o no_path).right) (get_put_other a.paths id p k apart)) ∙ is)
 
 -- two edges that were added one after the other, where the first ends at the vertex at which the second begins
-pub edges_can_join : (a b d : Arena) (l r u v x w z birth later : ℕ) → path_at a l ≡ None → b ≡ with_path a l (edge_path a u v w birth) → path_at b r ≡ None → d ≡ with_path b r (edge_path b v x z later) → u ≢ x → CanJoin d l r
+pub edges_can_join : (a b d : Arena) (l r u v x w z birth later : ℕ) → path_at a l ≡ None
+    → b ≡ with_path a l (edge_path a u v w birth) → path_at b r ≡ None → d ≡ with_path b r (edge_path b v x z later)
+    → u ≢ x → CanJoin d l r
 edges_can_join a b d l r u v x w z birth later fresh_l first_added fresh_r second_added apart = record {
   left_live = ap (λ q. is_some q.left) of_l;
   right_live = ap (λ q. is_some q.left) of_r;
@@ -402,11 +465,14 @@ edges_can_join a b d l r u v x w z birth later fresh_l first_added fresh_r secon
     differ = live_apart b r l fresh_r (live_from b l (edge_path a u v w birth) at_l)
 
     of_l : path_of d l ≡ edge_path a u v w birth
-    of_l = path_of_at d l (edge_path a u v w birth) (ap (λ m. path_at m l) second_added ∙ get_put_other b.paths r (edge_path b v x z later) l differ ∙ at_l)
+    of_l = path_of_at d l (edge_path a u v w birth)
+        (ap (λ m. path_at m l) second_added ∙ get_put_other b.paths r (edge_path b v x z later) l differ ∙ at_l)
 
     of_r : path_of d r ≡ edge_path b v x z later
-    of_r = path_of_at d r (edge_path b v x z later) (ap (λ m. path_at m r) second_added ∙ get_put b.paths r (edge_path b v x z later))
+    of_r = path_of_at d r (edge_path b v x z later)
+        (ap (λ m. path_at m r) second_added ∙ get_put b.paths r (edge_path b v x z later))
 
 -- what was added has an edge, where it has a left part
 pub edge_added : (a b : Arena) (id : ℕ) (p : Path) (l : ℕ) → b ≡ with_path a id p → p.left ≡ Some l → HasAnEdge b id
-edge_added a b id p l e has = ap is_some (ap (λ q. q.left) (path_of_at b id p (ap (λ m. path_at m id) e ∙ get_put a.paths id p)) ∙ has)
+edge_added a b id p l e has =
+    ap is_some (ap (λ q. q.left) (path_of_at b id p (ap (λ m. path_at m id) e ∙ get_put a.paths id p)) ∙ has)

@@ -15,20 +15,24 @@ module _ (all : List (Option Record)) where
   find_before (None ∷ rest) key q h = find_before rest (key + 1) q (omega arith)
   find_before (Some r ∷ rest) key q h =
       let apart : q ≢ key = omega arith in
-      ap (λ b. cond b (Some (path_from all key r)) (map.find nat_cmp q (listed all (key + 1) rest))) (apart_key key q apart)
+      ap (λ b. cond b (Some (path_from all key r)) (map.find nat_cmp q (listed all (key + 1) rest)))
+      (apart_key key q apart)
       ∙ find_before rest (key + 1) q (omega arith)
 
-  find_listed : (rest : List (Option Record)) (key at q : ℕ) → q ≡ key + at → map.find nat_cmp q (listed all key rest) ≡ option_map (path_from all q) (slot_at rest at)
+  find_listed : (rest : List (Option Record)) (key at q : ℕ) → q ≡ key + at
+      → map.find nat_cmp q (listed all key rest) ≡ option_map (path_from all q) (slot_at rest at)
   find_listed [] key at q e = refl
   find_listed (None ∷ rest) key zero q e = find_before rest (key + 1) q (omega arith)
   find_listed (None ∷ rest) key (suc at) q e = find_listed rest (key + 1) at q (omega arith)
   find_listed (Some r ∷ rest) key zero q e =
       let same : q ≡ key = omega arith in
       let F : ℕ → Type 0 = λ k. map.find nat_cmp q (listed all k (Some r ∷ rest)) ≡ Some (path_from all q r) in
-      subst F same (ap (λ b. cond b (Some (path_from all q r)) (map.find nat_cmp q (listed all (q + 1) rest))) (tied_key q))
+      subst F same (ap (λ b. cond b (Some (path_from all q r)) (map.find nat_cmp q (listed all (q + 1) rest)))
+      (tied_key q))
   find_listed (Some r ∷ rest) key (suc at) q e =
       let apart : q ≢ key = omega arith in
-      ap (λ b. cond b (Some (path_from all key r)) (map.find nat_cmp q (listed all (key + 1) rest))) (apart_key key q apart)
+      ap (λ b. cond b (Some (path_from all key r)) (map.find nat_cmp q (listed all (key + 1) rest)))
+      (apart_key key q apart)
       ∙ find_listed rest (key + 1) at q (omega arith)
 
   -- the path under a key is made of the record there

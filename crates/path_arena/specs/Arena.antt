@@ -118,6 +118,10 @@ with_path a id p = record a { paths = map.insert a.paths id p }
 abbrev pub without_path : Arena → ℕ → Arena
 without_path a id = record a { paths = map.remove a.paths id }
 
+-- a live path has another birth
+abbrev pub with_birth : Arena → ℕ → ℕ → Arena
+with_birth a id birth = with_path a id (record (path_of a id) { birth = birth })
+
 -- it is neither part of a live path
 pub record IsPartOfNone (a : Arena) (id : ℕ) : Type 0 where
   pub left : (k : ℕ) → left_of a k ≡ Some id → ⊥

@@ -5,7 +5,7 @@ ghost use Rattle.std.specs.Ordering.{nat_cmp};
 ghost use Rattle.std.specs.Cmp.Lexicographic.{slice_cmp};
 ghost use Rattle.apsp_model.specs.Walk.{first, last, hops_of};
 ghost use Rattle.apsp_model.specs.Order.{path_cmp};
-ghost use Rattle.path_arena.specs.Arena.{path_at, vertex_of, IsLive, path_of, list_of, weight_of_id, left_of, right_of, HasAnEdge, single, edge_path, joined_path, with_path, without_path, second, IsPartOfNone, CanJoin, IsArena, IsOpening};
+ghost use Rattle.path_arena.specs.Arena.{path_at, vertex_of, IsLive, path_of, list_of, weight_of_id, left_of, right_of, HasAnEdge, single, edge_path, joined_path, with_path, without_path, with_birth, second, IsPartOfNone, CanJoin, IsArena, IsOpening};
 ghost use Rattle.path_arena.specs.Records.{IsPut, IsSingleRecord};
 
 use crate::id::PathId;
@@ -147,6 +147,16 @@ impl Arena {
         ensures lawful { IsArena self.new }
     {
         let _ = self.records.remove(id.key());
+    }
+
+    /// Gives a live path with an edge another birth.
+    #[inline(always)]
+    pub fn set_birth(&mut self, id: PathId, birth: u64)
+        requires { HasAnEdge self.old id }
+        ensures born { self.new ≡ with_birth self.old id birth }
+        ensures lawful { IsArena self.new }
+    {
+        self.records[id.key()].birth = birth;
     }
 
     fn record(&self, id: PathId) -> &Record

@@ -35,13 +35,18 @@ taken (y ∷ ys) x once c = elim (in_cons x y ys c) [
             | inl first ↦ (head_in z y ys first, λ same. once.0 (subst (Contains ys) (sym same ∙ sym first) more))
             | inr later ↦ (let both = (w.exact z).0 later in (tail_in z y ys both.0, both.1))
           ],
-          λ h. elim (in_cons z y ys h.0) [ inl first ↦ head_in z y w.rest first | inr later ↦ tail_in z y w.rest ((w.exact z).1 (later, h.1)) ],
+          λ h. elim (in_cons z y ys h.0) [
+            | inl first ↦ head_in z y w.rest first
+            | inr later ↦
+                tail_in z y w.rest ((w.exact z).1 (later, h.1))
+          ],
         );
       }
 ]
 
 -- one list less: there was one, and the count is lower by one
-pub count_less : (P Q : List ℕ → Type 0) (a : ℕ) (p : List ℕ) → P p → ((q : List ℕ) → Q q ↔ (P q × (q ≡ p → ⊥))) → CountIs P a → (1 ≤ a) × CountIs Q (a - 1)
+pub count_less : (P Q : List ℕ → Type 0) (a : ℕ) (p : List ℕ) → P p → ((q : List ℕ) → Q q ↔ (P q × (q ≡ p → ⊥)))
+    → CountIs P a → (1 ≤ a) × CountIs Q (a - 1)
 count_less P Q a p has e c =
     let w : Taken c.lists p = taken c.lists p c.once ((c.exact p).1 has) in
     let long : length c.lists ≡ length w.rest + 1 = w.shorter in

@@ -56,7 +56,9 @@ edge_of_right a was q p right = go (path_at a q) refl
     go None e = absurd (let two : None ≡ Some p = sym (ap (λ o. (unwrap_or o no_path).right) e) ∙ right in cc)
     go (Some r) e = elim (single_or_edge a q was (ap is_some e)) [
       | inl one ↦
-          let alone : right_of a q ≡ None = ap (right_of a) one.2 ∙ ap (λ s. s.right) (path_of_at a (vertex_of a one.0) (single one.0) (was.singles one.0 one.1)) in
+          let alone : right_of a q ≡ None =
+          ap (right_of a) one.2 ∙ ap (λ s. s.right)
+          (path_of_at a (vertex_of a one.0) (single one.0) (was.singles one.0 one.1)) in
           absurd (let two : None ≡ Some p = sym alone ∙ right in cc)
       | inr edge ↦ edge
     ]

@@ -22,7 +22,8 @@ module _ (m : Known) (id : ℕ) (new : IsKnown m id → ⊥) where
   -- the new id has empty lists, and before it was known it had none
   pub sides_entered : (k : ℕ) → sides_at (map.insert m id no_sides) k ≡ sides_at m k
   sides_entered k = elim (cases_eq k id) [
-    | inl same ↦ ap (sides_at (map.insert m id no_sides)) same ∙ sides_of_new ∙ sym (ap (sides_at m) same ∙ ap (λ o. unwrap_or o no_sides) (not_known m id new))
+    | inl same ↦ ap (sides_at (map.insert m id no_sides)) same ∙ sides_of_new
+        ∙ sym (ap (sides_at m) same ∙ ap (λ o. unwrap_or o no_sides) (not_known m id new))
     | inr apart ↦ sides_other m id no_sides k apart
   ]
 
@@ -51,8 +52,10 @@ module _ (m : Known) (id : ℕ) (new : IsKnown m id → ⊥) where
   stays false xs ys is gone = is
 
   -- what is left where the new id is dropped again
-  pub dropped_again : (l r : ℕ) (after : Known) → StandsNowhere m id → IsDropped (map.insert m id no_sides) after id l r → after ≡ m
-  dropped_again l r after h d = map.same_map nat_cmp_total map.nat_cmp-IsAntisymmetric after m (λ q. at_key q (cases_eq q id))
+  pub dropped_again : (l r : ℕ) (after : Known) → StandsNowhere m id → IsDropped (map.insert m id no_sides) after id l r
+      → after ≡ m
+  dropped_again l r after h d =
+      map.same_map nat_cmp_total map.nat_cmp-IsAntisymmetric after m (λ q. at_key q (cases_eq q id))
     where
       gone : StandsNowhere (map.insert m id no_sides) id
       gone = stands_nowhere h
@@ -70,5 +73,7 @@ module _ (m : Known) (id : ℕ) (new : IsKnown m id → ⊥) where
           let right = stays (q == l) _ _ (d.right q apart) (gone.right q) in
           let left_star = stays (q == r) _ _ (d.left_star q apart) (gone.left_star q) in
           let right_star = stays (q == l) _ _ (d.right_star q apart) (gone.right_star q) in
-          let sides : sides_at after q ≡ sides_at (map.insert m id no_sides) q = (λ i. record { left = left i; right = right i; left_star = left_star i; right_star = right_star i }) in
-          both (map.get after q) (map.get m q) (d.known q apart ∙ ap is_some (get_put_other m id no_sides q apart)) (sides ∙ sides_entered q)
+          let sides : sides_at after q ≡ sides_at (map.insert m id no_sides) q =
+          (λ i. record { left = left i; right = right i; left_star = left_star i; right_star = right_star i }) in
+          both (map.get after q) (map.get m q) (d.known q apart ∙ ap is_some (get_put_other m id no_sides q apart))
+          (sides ∙ sides_entered q)

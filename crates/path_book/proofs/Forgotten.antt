@@ -34,11 +34,14 @@ pub empty_lists : (b : Book) (id : ℕ) → IsBook b → IsPartOfNone b.arena id
 empty_lists b id was free =
     let left = nothing_in (sides_at b.lists id).left (λ q c. free.right q ((was.extensions.left id q).0 c)) in
     let right = nothing_in (sides_at b.lists id).right (λ q c. free.left q ((was.extensions.right id q).0 c)) in
-    let left_star = nothing_in (sides_at b.lists id).left_star (λ q c. free.right q ((was.extensions.left_star id q).0 c).0) in
-    let right_star = nothing_in (sides_at b.lists id).right_star (λ q c. free.left q ((was.extensions.right_star id q).0 c).0) in
+    let left_star =
+    nothing_in (sides_at b.lists id).left_star (λ q c. free.right q ((was.extensions.left_star id q).0 c).0) in
+    let right_star =
+    nothing_in (sides_at b.lists id).right_star (λ q c. free.left q ((was.extensions.right_star id q).0 c).0) in
     λ i. record { left = left i; right = right i; left_star = left_star i; right_star = right_star i }
 
-pub stands_only : (b : Book) (id l r : ℕ) → IsBook b → left_of b.arena id ≡ Some l → right_of b.arena id ≡ Some r → StandsOnlyAt b.lists id l r
+pub stands_only : (b : Book) (id l r : ℕ) → IsBook b → left_of b.arena id ≡ Some l → right_of b.arena id ≡ Some r
+    → StandsOnlyAt b.lists id l r
 stands_only b id l r was left right = record {
   left = λ k c. at_right k ((was.extensions.left k id).0 c);
   right = λ k c. at_left k ((was.extensions.right k id).0 c);
@@ -85,7 +88,8 @@ but_lists b was = record {
   right_marked = was.right_marked;
 }
 
-pub stored_but_lists : (b : Book) (held : Heaps) (historical pending : ℕ) → IsStored b held historical pending → IsStoredButLists b held historical pending
+pub stored_but_lists : (b : Book) (held : Heaps) (historical pending : ℕ) → IsStored b held historical pending
+    → IsStoredButLists b held historical pending
 stored_but_lists b held historical pending stored = record {
   book = but_lists b stored.book;
   heaps = stored.heaps;
@@ -105,7 +109,8 @@ with_lists b was extensions = record {
   extensions = extensions;
 }
 
-pub stored_with_lists : (b : Book) (held : Heaps) (historical pending : ℕ) → IsStoredButLists b held historical pending → HasExtensions b.arena b.marked b.lists → IsStored b held historical pending
+pub stored_with_lists : (b : Book) (held : Heaps) (historical pending : ℕ) → IsStoredButLists b held historical pending
+    → HasExtensions b.arena b.marked b.lists → IsStored b held historical pending
 stored_with_lists b held historical pending stored extensions = record {
   book = with_lists b stored.book extensions;
   heaps = stored.heaps;
@@ -114,7 +119,8 @@ stored_with_lists b held historical pending stored extensions = record {
   most = stored.most;
 }
 
-module _ (b : Book) (id : ℕ) (lists : Known) (was : IsBookButLists b) (edge : HasAnEdge b.arena id) (free : IsPartOfNone b.arena id) where
+module _ (b : Book) (id : ℕ) (lists : Known) (was : IsBookButLists b) (edge : HasAnEdge b.arena id)
+    (free : IsPartOfNone b.arena id) where
   abbrev pub left_over : Book
   left_over = record { arena = without_path b.arena id; marked = set.remove b.marked id; lists = lists }
 
@@ -124,7 +130,8 @@ module _ (b : Book) (id : ℕ) (lists : Known) (was : IsBookButLists b) (edge : 
   pub live_left : (q : ℕ) → IsLive (without_path b.arena id) q ↔ (IsLive b.arena q × (q ≢ id))
   live_left q = elim (cases_eq q id) [
     | inl same ↦ (
-      λ h. absurd (false≢true (sym (ap is_some (ap (map.get (map.remove b.arena.paths id)) same ∙ get_gone b.arena.paths id)) ∙ h)),
+      λ h. absurd (false≢true (sym (ap is_some
+          (ap (map.get (map.remove b.arena.paths id)) same ∙ get_gone b.arena.paths id)) ∙ h)),
       λ h. absurd (h.1 same),
     )
     | inr apart ↦ (
@@ -152,7 +159,8 @@ module _ (b : Book) (id : ℕ) (lists : Known) (was : IsBookButLists b) (edge : 
 
   single_apart : (v : ℕ) → v < b.arena.vertices → vertex_of b.arena v ≢ id
   single_apart v l same =
-      let there : path_of b.arena (vertex_of b.arena v) ≡ single v = path_of_at b.arena (vertex_of b.arena v) (single v) (was.arena.singles v l) in
+      let there : path_of b.arena (vertex_of b.arena v) ≡ single v =
+      path_of_at b.arena (vertex_of b.arena v) (single v) (was.arena.singles v l) in
       false≢true (subst (λ (p : Path). IsSome p.left) there (subst (HasAnEdge b.arena) (sym same) edge))
 
   pub book_left : IsBookButLists left_over
@@ -161,7 +169,8 @@ module _ (b : Book) (id : ℕ) (lists : Known) (was : IsBookButLists b) (edge : 
     once = λ i j live_i live_j same. (
         let old_i = (live_left i).0 live_i in
         let old_j = (live_left j).0 live_j in
-        was.once i j old_i.0 old_j.0 (sym (ap (λ p. p.list) (path_of_old i old_i.1)) ∙ same ∙ ap (λ p. p.list) (path_of_old j old_j.1))
+        was.once i j old_i.0 old_j.0 (sym (ap (λ p. p.list) (path_of_old i old_i.1)) ∙ same
+        ∙ ap (λ p. p.list) (path_of_old j old_j.1))
         );
     marked_live = λ q mark. (let old = (marked_left q).0 mark in (live_left q).1 (was.marked_live q old.0, old.1));
     singles = λ v l. (marked_left (vertex_of b.arena v)).1 (was.singles v l, single_apart v l);
@@ -180,7 +189,8 @@ module _ (b : Book) (id : ℕ) (lists : Known) (was : IsBookButLists b) (edge : 
   pub edge_left : (q : ℕ) → HasAnEdge (without_path b.arena id) q ↔ (HasAnEdge b.arena q × (q ≢ id))
   edge_left q = elim (cases_eq q id) [
     | inl same ↦ (
-      λ h. absurd (false≢true (sym (ap (λ o. is_some (unwrap_or o no_path).left) (ap (map.get (map.remove b.arena.paths id)) same ∙ get_gone b.arena.paths id)) ∙ h)),
+      λ h. absurd (false≢true (sym (ap (λ o. is_some (unwrap_or o no_path).left)
+          (ap (map.get (map.remove b.arena.paths id)) same ∙ get_gone b.arena.paths id)) ∙ h)),
       λ h. absurd (h.1 same),
     )
     | inr apart ↦ (
@@ -189,8 +199,10 @@ module _ (b : Book) (id : ℕ) (lists : Known) (was : IsBookButLists b) (edge : 
     )
   ]
 
-  pub heaps_left : (h k : Heaps) → HoldsPaths b.arena h → HeapsFit k b.arena → ((x y : ℕ) → HasEnds b.arena id x y → IsRemoved h k id x y) → HoldsPaths (without_path b.arena id) k
-  heaps_left h k holds fits removed = record { fits = fits_agree k b.arena (without_path b.arena id) fits agree; held = held; only = only }
+  pub heaps_left : (h k : Heaps) → HoldsPaths b.arena h → HeapsFit k b.arena
+      → ((x y : ℕ) → HasEnds b.arena id x y → IsRemoved h k id x y) → HoldsPaths (without_path b.arena id) k
+  heaps_left h k holds fits removed =
+      record { fits = fits_agree k b.arena (without_path b.arena id) fits agree; held = held; only = only }
     where
       ends : (x : ℕ) × (y : ℕ) × HasEnds b.arena id x y
       ends = ends_of b.arena id was.arena edge
@@ -205,12 +217,20 @@ module _ (b : Book) (id : ℕ) (lists : Known) (was : IsBookButLists b) (edge : 
       before : (q x y : ℕ) → Contains (held_at k x y) q → Contains (held_at h x y) q × (q ≢ id)
       before q x y c = elim (same_pair ends.0 ends.1 x y) [
         | inl there ↦
-            let at_pair : Contains (held_at k ends.0 ends.1) q = subst (λ u. Contains (held_at k u ends.1) q) there.0 (subst (λ v. Contains (held_at k x v) q) there.1 c) in
-            let old = (gone.held.ids q).0 at_pair in
-            (subst (λ u. Contains (held_at h u y) q) (sym there.0) (subst (λ v. Contains (held_at h ends.0 v) q) (sym there.1) old.0), old.1)
+            let at_pair : Contains (held_at k ends.0 ends.1) q =
+            subst (λ u. Contains (held_at k u ends.1) q) there.0 (subst (λ v. Contains (held_at k x v) q) there.1 c)
+            in
+            let old = (gone.held.ids q).0 at_pair in (
+              subst (λ u. Contains (held_at h u y) q) (sym there.0)
+                  (subst (λ v. Contains (held_at h ends.0 v) q) (sym there.1) old.0),
+              old.1,
+            )
         | inr other ↦
-            let old : Contains (held_at h x y) q = subst (λ xs. Contains xs q) (others x y other) c in
-            (old, λ same. (let e = ends_alike b.arena id ends.0 ends.1 x y ends.2 (subst (λ j. HasEnds b.arena j x y) same (holds.fits.ends x y q old)) in other e.0 e.1))
+            let old : Contains (held_at h x y) q = subst (λ xs. Contains xs q) (others x y other) c in (
+              old,
+              λ same. (let e = ends_alike b.arena id ends.0 ends.1 x y ends.2
+                  (subst (λ j. HasEnds b.arena j x y) same (holds.fits.ends x y q old)) in other e.0 e.1),
+            )
       ]
 
       agree : AgreeOnHeapIds k b.arena (without_path b.arena id)
@@ -221,16 +241,24 @@ module _ (b : Book) (id : ℕ) (lists : Known) (was : IsBookButLists b) (edge : 
         weights = λ q is. ap (λ p. p.weight) (path_of_old q (before q is.0 is.1 is.2).1);
       }
 
-      held : (q x y : ℕ) → HasAnEdge (without_path b.arena id) q → HasEnds (without_path b.arena id) q x y → Contains (held_at k x y) q
+      held : (q x y : ℕ) → HasAnEdge (without_path b.arena id) q → HasEnds (without_path b.arena id) q x y
+          → Contains (held_at k x y) q
       held q x y has e =
           let old = (edge_left q).0 has in
-          let old_ends : HasEnds b.arena q x y = (sym (ap (λ s. first s.list) (path_of_old q old.1)) ∙ e.0, sym (ap (λ s. last s.list) (path_of_old q old.1)) ∙ e.1) in
+          let old_ends : HasEnds b.arena q x y = (
+            sym (ap (λ s. first s.list) (path_of_old q old.1))
+                ∙ e.0,
+            sym (ap (λ s. last s.list) (path_of_old q old.1)) ∙ e.1,
+          ) in
           let was_held : Contains (held_at h x y) q = holds.held q x y old.0 old_ends in
           elim (same_pair ends.0 ends.1 x y) [
             | inl there ↦
-                let at_pair : Contains (held_at h ends.0 ends.1) q = subst (λ u. Contains (held_at h u ends.1) q) there.0 (subst (λ v. Contains (held_at h x v) q) there.1 was_held) in
+                let at_pair : Contains (held_at h ends.0 ends.1) q =
+                subst (λ u. Contains (held_at h u ends.1) q) there.0
+                (subst (λ v. Contains (held_at h x v) q) there.1 was_held) in
                 let now : Contains (held_at k ends.0 ends.1) q = (gone.held.ids q).1 (at_pair, old.1) in
-                subst (λ u. Contains (held_at k u y) q) (sym there.0) (subst (λ v. Contains (held_at k ends.0 v) q) (sym there.1) now)
+                subst (λ u. Contains (held_at k u y) q) (sym there.0)
+                (subst (λ v. Contains (held_at k ends.0 v) q) (sym there.1) now)
             | inr other ↦ subst (λ xs. Contains xs q) (sym (others x y other)) was_held
           ]
 
@@ -239,24 +267,37 @@ module _ (b : Book) (id : ℕ) (lists : Known) (was : IsBookButLists b) (edge : 
 
   -- ---- the counts
 
-  counted_left : (historical : Bool) (q : List ℕ) → IsCounted left_over historical q ↔ (IsCounted b historical q × (q ≡ list_of b.arena id → ⊥))
+  counted_left : (historical : Bool) (q : List ℕ)
+      → IsCounted left_over historical q ↔ (IsCounted b historical q × (q ≡ list_of b.arena id → ⊥))
   counted_left historical q = (
     λ h. (
         let old = (edge_left h.0).0 h.1 in
-        let list : list_of b.arena h.0 ≡ q = sym (ap (λ p. p.list) (path_of_old h.0 old.1)) ∙ h.2 in
-        ((h.0, old.0, list, sym (marked_gone_other b.marked id h.0 old.1) ∙ h.3), λ same. old.1 (was.once h.0 id (live_from_edge b.arena h.0 was.arena old.0) live_id (list ∙ same)))
+        let list : list_of b.arena h.0 ≡ q = sym (ap (λ p. p.list) (path_of_old h.0 old.1)) ∙ h.2 in (
+          (h.0, old.0, list, sym (marked_gone_other b.marked id h.0 old.1) ∙ h.3),
+          λ same. old.1
+              (was.once h.0 id (live_from_edge b.arena h.0 was.arena old.0) live_id (list ∙ same)),
+        )
         ),
     λ h. (
-        let apart : h.0.0 ≢ id = λ same. h.1 (sym h.0.2 ∙ ap (list_of b.arena) same) in
-        (h.0.0, (edge_left h.0.0).1 (h.0.1, apart), ap (λ p. p.list) (path_of_old h.0.0 apart) ∙ h.0.2, marked_gone_other b.marked id h.0.0 apart ∙ h.0.3)
+        let apart : h.0.0 ≢ id = λ same. h.1 (sym h.0.2 ∙ ap (list_of b.arena) same) in (
+          h.0.0,
+          (edge_left h.0.0).1 (h.0.1, apart),
+          ap (λ p. p.list) (path_of_old h.0.0 apart)
+              ∙ h.0.2,
+          marked_gone_other b.marked id h.0.0 apart ∙ h.0.3,
+        )
         ),
   )
 
   -- the count of the id's own kind falls, and the other stays
-  pub own_count_left : (historical : Bool) (n : ℕ) → set.contains b.marked id ≡ historical → CountIs (IsCounted b historical) n → (1 ≤ n) × CountIs (IsCounted left_over historical) (n - 1)
-  own_count_left historical n is c = count_less (IsCounted b historical) (IsCounted left_over historical) n (list_of b.arena id) (id, edge, refl, is) (counted_left historical) c
+  pub own_count_left : (historical : Bool) (n : ℕ) → set.contains b.marked id ≡ historical
+      → CountIs (IsCounted b historical) n → (1 ≤ n) × CountIs (IsCounted left_over historical) (n - 1)
+  own_count_left historical n is c =
+      count_less (IsCounted b historical) (IsCounted left_over historical) n (list_of b.arena id) (id, edge, refl, is)
+      (counted_left historical) c
 
-  pub other_count_left : (historical : Bool) (n : ℕ) → (set.contains b.marked id ≡ historical → ⊥) → CountIs (IsCounted b historical) n → CountIs (IsCounted left_over historical) n
+  pub other_count_left : (historical : Bool) (n : ℕ) → (set.contains b.marked id ≡ historical → ⊥)
+      → CountIs (IsCounted b historical) n → CountIs (IsCounted left_over historical) n
   other_count_left historical n is_not c =
       count_same (IsCounted b historical) (IsCounted left_over historical) n
       (λ q. (
@@ -270,11 +311,17 @@ module _ (b : Book) (id : ℕ) (lists : Known) (was : IsBookButLists b) (edge : 
         λ h. ((counted_left historical q).0 h).0,
       )) c
 
-  pub some_of_kind : (historical pending : ℕ) → CountIs (IsCounted b true) historical → CountIs (IsCounted b false) pending → (mark : Bool) → set.contains b.marked id ≡ mark → 1 ≤ (if mark then historical else pending)
+  pub some_of_kind : (historical pending : ℕ) → CountIs (IsCounted b true) historical
+      → CountIs (IsCounted b false) pending → (mark : Bool) → set.contains b.marked id ≡ mark
+      → 1 ≤ (if mark then historical else pending)
   some_of_kind historical pending counted waiting true is = (own_count_left true historical is counted).0
   some_of_kind historical pending counted waiting false is = (own_count_left false pending is waiting).0
 
-  pub stored_left : (h k : Heaps) (historical pending : ℕ) → IsStoredButLists b h historical pending → HeapsFit k b.arena → ((x y : ℕ) → HasEnds b.arena id x y → IsRemoved h k id x y) → (mark : Bool) → set.contains b.marked id ≡ mark → (1 ≤ (if mark then historical else pending)) × IsStoredButLists left_over k (if mark then historical - 1 else historical) (if mark then pending else pending - 1)
+  pub stored_left : (h k : Heaps) (historical pending : ℕ) → IsStoredButLists b h historical pending
+      → HeapsFit k b.arena → ((x y : ℕ) → HasEnds b.arena id x y → IsRemoved h k id x y) → (mark : Bool)
+      → set.contains b.marked id ≡ mark → (1 ≤ (if mark then historical else pending))
+      × IsStoredButLists left_over k (if mark then historical - 1 else historical)
+      (if mark then pending else pending - 1)
   stored_left h k historical pending stored fits removed true is =
       let own = own_count_left true historical is stored.historical_count in
       let some : 1 ≤ historical = own.0 in
@@ -304,7 +351,8 @@ module _ (b : Book) (id : ℕ) (lists : Known) (was : IsBookButLists b) (edge : 
 
   -- ---- the lists, where the id is taken out of two of them
 
-  module _ (extensions : HasExtensions b.arena b.marked b.lists) (dropped : IsDropped b.lists lists id (left_id (path_of b.arena id)) (right_id (path_of b.arena id))) where
+  module _ (extensions : HasExtensions b.arena b.marked b.lists)
+      (dropped : IsDropped b.lists lists id (left_id (path_of b.arena id)) (right_id (path_of b.arena id))) where
     known_left_over : (q : ℕ) → IsKnown lists q ↔ IsLive (without_path b.arena id) q
     known_left_over q = elim (cases_eq q id) [
       | inl same ↦ (
@@ -318,25 +366,49 @@ module _ (b : Book) (id : ℕ) (lists : Known) (was : IsBookButLists b) (edge : 
     ]
 
     -- a list of the id itself, and of another one
-    side : (proj : Sides → List ℕ) (part : Path → Option ℕ) (key : ℕ) (Old New : ℕ → ℕ → Type 0) → proj no_sides ≡ [] → part (path_of b.arena id) ≡ Some key → ((k q : ℕ) → Old k q → part (path_of b.arena q) ≡ Some k) → ((q : ℕ) → Old id q → ⊥) → ((k q : ℕ) → Contains (proj (sides_at b.lists k)) q ↔ Old k q) → ((k q : ℕ) → New k q ↔ (Old k q × (q ≢ id))) → ((k : ℕ) → k ≢ id → IsLeft (k == key) id (proj (sides_at b.lists k)) (proj (sides_at lists k))) → (k q : ℕ) → Contains (proj (sides_at lists k)) q ↔ New k q
+    side : (proj : Sides → List ℕ) (part : Path → Option ℕ) (key : ℕ) (Old New : ℕ → ℕ → Type 0) → proj no_sides ≡ []
+        → part (path_of b.arena id) ≡ Some key → ((k q : ℕ) → Old k q → part (path_of b.arena q) ≡ Some k)
+        → ((q : ℕ) → Old id q → ⊥) → ((k q : ℕ) → Contains (proj (sides_at b.lists k)) q ↔ Old k q)
+        → ((k q : ℕ) → New k q ↔ (Old k q × (q ≢ id)))
+        → ((k : ℕ) → k ≢ id → IsLeft (k == key) id (proj (sides_at b.lists k)) (proj (sides_at lists k))) → (k q : ℕ)
+        → Contains (proj (sides_at lists k)) q ↔ New k q
     side proj part key Old New empty is means none old new left k q = elim (cases_eq k id) [
       | inl same ↦
-          let gone : proj (sides_at lists k) ≡ [] = ap (λ o. proj (unwrap_or o no_sides)) (ap (map.get lists) same ∙ dropped.forgotten) ∙ empty in (
+          let gone : proj (sides_at lists k) ≡ [] =
+          ap (λ o. proj (unwrap_or o no_sides)) (ap (map.get lists) same ∙ dropped.forgotten) ∙ empty in (
             λ c. absurd (in_nil q (subst (λ xs. Contains xs q) gone c)),
             λ h. absurd (none q (subst (λ j. Old j q) same ((new k q).0 h).0)),
           )
       | inr apart ↦
-          shrunk (proj (sides_at b.lists k)) (proj (sides_at lists k)) id (k == key) (Old k) (New k) (left k apart) (old k) (new k)
-          (λ here h. (let two : Some k ≡ Some key = sym (means k id h) ∙ is in let same : k ≡ key = cc in true≢false (sym (eq-eqb k key same) ∙ here))) q
+          shrunk (proj (sides_at b.lists k)) (proj (sides_at lists k)) id (k == key) (Old k) (New k) (left k apart)
+          (old k) (new k)
+          (λ here h. (let two : Some k ≡ Some key = sym (means k id h) ∙ is in let same : k ≡ key = cc in
+          true≢false (sym (eq-eqb k key same) ∙ here))) q
     ]
 
     pub extensions_left : HasExtensions (without_path b.arena id) (set.remove b.marked id) lists
     extensions_left = record {
       known = known_left_over;
-      left = side (λ s. s.left) (λ p. p.right) (right_id (path_of b.arena id)) (λ k q. right_of b.arena q ≡ Some k) (λ k q. right_of (without_path b.arena id) q ≡ Some k) refl (right_is b id (with_lists b was extensions) edge) (λ k q h. h) free.right extensions.left (λ k q. part_taken (λ p. p.right) refl b.arena id k q) dropped.left;
-      right = side (λ s. s.right) (λ p. p.left) (left_id (path_of b.arena id)) (λ k q. left_of b.arena q ≡ Some k) (λ k q. left_of (without_path b.arena id) q ≡ Some k) refl (left_is b id (with_lists b was extensions) edge) (λ k q h. h) free.left extensions.right (λ k q. part_taken (λ p. p.left) refl b.arena id k q) dropped.right;
-      left_star = side (λ s. s.left_star) (λ p. p.right) (right_id (path_of b.arena id)) (λ k q. (right_of b.arena q ≡ Some k) × IsMarked b q) (λ k q. (right_of (without_path b.arena id) q ≡ Some k) × IsTrue (set.contains (set.remove b.marked id) q)) refl (right_is b id (with_lists b was extensions) edge) (λ k q h. h.0) (λ q h. free.right q h.0) extensions.left_star (λ k q. both (part_taken (λ p. p.right) refl b.arena id k q) (marked_left q)) dropped.left_star;
-      right_star = side (λ s. s.right_star) (λ p. p.left) (left_id (path_of b.arena id)) (λ k q. (left_of b.arena q ≡ Some k) × IsMarked b q) (λ k q. (left_of (without_path b.arena id) q ≡ Some k) × IsTrue (set.contains (set.remove b.marked id) q)) refl (left_is b id (with_lists b was extensions) edge) (λ k q h. h.0) (λ q h. free.left q h.0) extensions.right_star (λ k q. both (part_taken (λ p. p.left) refl b.arena id k q) (marked_left q)) dropped.right_star;
+      left = side (λ s. s.left) (λ p. p.right) (right_id (path_of b.arena id)) (λ k q. right_of b.arena q ≡ Some k)
+          (λ k q. right_of (without_path b.arena id) q ≡ Some k) refl (right_is b id (with_lists b was extensions) edge)
+          (λ k q h. h) free.right extensions.left (λ k q. part_taken (λ p. p.right) refl b.arena id k q) dropped.left;
+      right = side (λ s. s.right) (λ p. p.left) (left_id (path_of b.arena id)) (λ k q. left_of b.arena q ≡ Some k)
+          (λ k q. left_of (without_path b.arena id) q ≡ Some k) refl (left_is b id (with_lists b was extensions) edge)
+          (λ k q h. h) free.left extensions.right (λ k q. part_taken (λ p. p.left) refl b.arena id k q) dropped.right;
+      left_star =
+          side (λ s. s.left_star) (λ p. p.right) (right_id (path_of b.arena id))
+          (λ k q. (right_of b.arena q ≡ Some k) × IsMarked b q)
+          (λ k q. (right_of (without_path b.arena id) q ≡ Some k) × IsTrue (set.contains (set.remove b.marked id) q))
+          refl (right_is b id (with_lists b was extensions) edge) (λ k q h. h.0) (λ q h. free.right q h.0)
+          extensions.left_star (λ k q. both (part_taken (λ p. p.right) refl b.arena id k q) (marked_left q))
+          dropped.left_star;
+      right_star =
+          side (λ s. s.right_star) (λ p. p.left) (left_id (path_of b.arena id))
+          (λ k q. (left_of b.arena q ≡ Some k) × IsMarked b q)
+          (λ k q. (left_of (without_path b.arena id) q ≡ Some k) × IsTrue (set.contains (set.remove b.marked id) q))
+          refl (left_is b id (with_lists b was extensions) edge) (λ k q h. h.0) (λ q h. free.left q h.0)
+          extensions.right_star (λ k q. both (part_taken (λ p. p.left) refl b.arena id k q) (marked_left q))
+          dropped.right_star;
     }
       where
         both : {A B P Q R : Type 0} → (A ↔ (P × R)) → (B ↔ (Q × R)) → (A × B) ↔ ((P × Q) × R)
@@ -346,42 +418,70 @@ module _ (b : Book) (id : ℕ) (lists : Known) (was : IsBookButLists b) (edge : 
         )
 
 -- what the parts of a book are after a path is forgotten, where its mark was this
-pub record LeftOver (b : Book) (id : ℕ) (heaps : Heaps) (arena : Arena) (lists : Known) (marks : List Bool) (historical pending : ℕ) (mark : Bool) : Type 0 where
+pub record LeftOver (b : Book) (id : ℕ) (heaps : Heaps) (arena : Arena) (lists : Known) (marks : List Bool)
+    (historical pending : ℕ) (mark : Bool) : Type 0 where
   pub some : 1 ≤ (if mark then historical else pending)
-  pub stored : IsStored (record { arena = arena; marked = marked_in marks; lists = lists }) heaps (if mark then historical - 1 else historical) (if mark then pending else pending - 1)
+  pub stored : IsStored (record { arena = arena; marked = marked_in marks; lists = lists }) heaps
+      (if mark then historical - 1 else historical) (if mark then pending else pending - 1)
   pub forgotten : IsForgotten b (record { arena = arena; marked = marked_in marks; lists = lists }) id
 
 -- the same whatever the lists are
-pub record LeftOverButLists (b : Book) (id : ℕ) (heaps : Heaps) (arena : Arena) (lists : Known) (marks : List Bool) (historical pending : ℕ) (mark : Bool) : Type 0 where
+pub record LeftOverButLists (b : Book) (id : ℕ) (heaps : Heaps) (arena : Arena) (lists : Known) (marks : List Bool)
+    (historical pending : ℕ) (mark : Bool) : Type 0 where
   pub some : 1 ≤ (if mark then historical else pending)
-  pub stored : IsStoredButLists (record { arena = arena; marked = marked_in marks; lists = lists }) heaps (if mark then historical - 1 else historical) (if mark then pending else pending - 1)
+  pub stored : IsStoredButLists (record { arena = arena; marked = marked_in marks; lists = lists }) heaps
+      (if mark then historical - 1 else historical) (if mark then pending else pending - 1)
   pub arena_is : arena ≡ without_path b.arena id
   pub marked_is : marked_in marks ≡ set.remove b.marked id
 
-pub left_but_lists : (b : Book) (id key : ℕ) (h k : Heaps) (arena : Arena) (lists : Known) (before after : List Bool) (historical pending : ℕ) (mark : Bool) → IsStoredButLists b h historical pending → HasAnEdge b.arena id → IsPartOfNone b.arena id → marked_in before ≡ b.marked → key ≡ id → arena ≡ without_path b.arena id → HeapsFit k b.arena → ((x y : ℕ) → HasEnds b.arena id x y → IsRemoved h k id x y) → mark ≡ mark_at before key → marked_in after ≡ set.remove (marked_in before) key → LeftOverButLists b id k arena lists after historical pending mark
-left_but_lists b id key h k arena lists before after historical pending mark stored edge free marks here taken fits removed was cleared =
+pub left_but_lists : (b : Book) (id key : ℕ) (h k : Heaps) (arena : Arena) (lists : Known) (before after : List Bool)
+    (historical pending : ℕ) (mark : Bool) → IsStoredButLists b h historical pending → HasAnEdge b.arena id
+    → IsPartOfNone b.arena id → marked_in before ≡ b.marked → key ≡ id → arena ≡ without_path b.arena id
+    → HeapsFit k b.arena → ((x y : ℕ) → HasEnds b.arena id x y → IsRemoved h k id x y) → mark ≡ mark_at before key
+    → marked_in after ≡ set.remove (marked_in before) key
+    → LeftOverButLists b id k arena lists after historical pending mark
+left_but_lists b id key h k arena lists before after historical pending mark stored edge free marks here taken fits
+    removed was cleared =
     let marked : marked_in after ≡ set.remove b.marked id = cleared ∙ (λ i. set.remove (marks i) (here i)) in
-    let is_mark : set.contains b.marked id ≡ mark = sym (λ i. set.contains (marks i) (here i)) ∙ contains-marked_in before key ∙ sym was in
+    let is_mark : set.contains b.marked id ≡ mark =
+    sym (λ i. set.contains (marks i) (here i)) ∙ contains-marked_in before key ∙ sym was in
     let both = stored_left b id lists stored.book edge free h k historical pending stored fits removed mark is_mark in
-    let books : ◌≡◌ {A = Book} (record { arena = arena; marked = marked_in after; lists = lists }) (record { arena = without_path b.arena id; marked = set.remove b.marked id; lists = lists }) = (λ i. record { arena = taken i; marked = marked i; lists = lists }) in
+    let books : ◌≡◌ {A = Book} (record { arena = arena; marked = marked_in after; lists = lists })
+    (record { arena = without_path b.arena id; marked = set.remove b.marked id; lists = lists })
+    = (λ i. record { arena = taken i; marked = marked i; lists = lists }) in
     record {
       some = both.0;
-      stored = subst (λ c. IsStoredButLists c k (if mark then historical - 1 else historical) (if mark then pending else pending - 1)) (sym books) both.1;
+      stored = subst (λ c. IsStoredButLists c k (if mark then historical - 1 else historical)
+          (if mark then pending else pending - 1)) (sym books) both.1;
       arena_is = taken;
       marked_is = marked;
     }
 
-pub left_over_now : (b : Book) (id key : ℕ) (h k : Heaps) (arena : Arena) (l r : ℕ) (lists : Known) (before after : List Bool) (historical pending : ℕ) (mark : Bool) → IsStored b h historical pending → HasAnEdge b.arena id → IsPartOfNone b.arena id → marked_in before ≡ b.marked → key ≡ id → arena ≡ without_path b.arena id → left_of b.arena id ≡ Some l → right_of b.arena id ≡ Some r → IsDropped b.lists lists id l r → HeapsFit k b.arena → ((x y : ℕ) → HasEnds b.arena id x y → IsRemoved h k id x y) → mark ≡ mark_at before key → marked_in after ≡ set.remove (marked_in before) key → LeftOver b id k arena lists after historical pending mark
-left_over_now b id key h k arena l r lists before after historical pending mark stored edge free marks here taken left right dropped fits removed was cleared =
+pub left_over_now : (b : Book) (id key : ℕ) (h k : Heaps) (arena : Arena) (l r : ℕ) (lists : Known)
+    (before after : List Bool) (historical pending : ℕ) (mark : Bool) → IsStored b h historical pending
+    → HasAnEdge b.arena id → IsPartOfNone b.arena id → marked_in before ≡ b.marked → key ≡ id
+    → arena ≡ without_path b.arena id → left_of b.arena id ≡ Some l → right_of b.arena id ≡ Some r
+    → IsDropped b.lists lists id l r → HeapsFit k b.arena → ((x y : ℕ) → HasEnds b.arena id x y → IsRemoved h k id x y)
+    → mark ≡ mark_at before key → marked_in after ≡ set.remove (marked_in before) key
+    → LeftOver b id k arena lists after historical pending mark
+left_over_now b id key h k arena l r lists before after historical pending mark stored edge free marks here taken left
+    right dropped fits removed was cleared =
     let to_l : l ≡ left_id (path_of b.arena id) = ap (λ o. unwrap_or o 0) (sym left) in
     let to_r : r ≡ right_id (path_of b.arena id) = ap (λ o. unwrap_or o 0) (sym right) in
-    let drops : IsDropped b.lists lists id (left_id (path_of b.arena id)) (right_id (path_of b.arena id)) = subst (λ x. IsDropped b.lists lists id x (right_id (path_of b.arena id))) to_l (subst (λ x. IsDropped b.lists lists id l x) to_r dropped) in
-    let but = left_but_lists b id key h k arena lists before after historical pending mark (stored_but_lists b h historical pending stored) edge free marks here taken fits removed was cleared in
-    let books : ◌≡◌ {A = Book} (record { arena = arena; marked = marked_in after; lists = lists }) (left_over b id lists (but_lists b stored.book) edge free) = (λ i. record { arena = taken i; marked = but.marked_is i; lists = lists }) in
+    let drops : IsDropped b.lists lists id (left_id (path_of b.arena id)) (right_id (path_of b.arena id)) =
+    subst (λ x. IsDropped b.lists lists id x (right_id (path_of b.arena id))) to_l
+    (subst (λ x. IsDropped b.lists lists id l x) to_r dropped) in
+    let but =
+    left_but_lists b id key h k arena lists before after historical pending mark
+    (stored_but_lists b h historical pending stored) edge free marks here taken fits removed was cleared in
+    let books : ◌≡◌ {A = Book} (record { arena = arena; marked = marked_in after; lists = lists })
+    (left_over b id lists (but_lists b stored.book) edge free)
+    = (λ i. record { arena = taken i; marked = but.marked_is i; lists = lists }) in
     let extensions = extensions_left b id lists (but_lists b stored.book) edge free stored.book.extensions drops in
     record {
       some = but.some;
-      stored = stored_with_lists (record { arena = arena; marked = marked_in after; lists = lists }) k (if mark then historical - 1 else historical) (if mark then pending else pending - 1) but.stored
+      stored = stored_with_lists (record { arena = arena; marked = marked_in after; lists = lists }) k
+          (if mark then historical - 1 else historical) (if mark then pending else pending - 1) but.stored
           (subst (λ c. HasExtensions c.arena c.marked c.lists) (sym books) extensions);
       forgotten = record { arena = taken; marked = but.marked_is; lists = drops };
     }

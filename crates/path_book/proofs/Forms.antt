@@ -22,14 +22,17 @@ use Rattle.path_book.proofs.Formed.{IsNew, same_pair, ends_alike, edge_now, path
 -- a path that was added and taken out again leaves the arena as it was
 pub added_and_taken : (a : Arena) (id : ℕ) (p : Path) → path_at a id ≡ None → without_path (with_path a id p) id ≡ a
 added_and_taken a id p fresh =
-    let maps : map.remove (map.insert a.paths id p) id ≡ a.paths = map.same_map nat_cmp_total map.nat_cmp-IsAntisymmetric _ _ (λ q. elim (cases_eq q id) [
-      | inl same ↦ ap (map.get (map.remove (map.insert a.paths id p) id)) same ∙ get_gone (map.insert a.paths id p) id ∙ sym fresh ∙ ap (map.get a.paths) (sym same)
+    let maps : map.remove (map.insert a.paths id p) id ≡ a.paths =
+    map.same_map nat_cmp_total map.nat_cmp-IsAntisymmetric _ _ (λ q. elim (cases_eq q id) [
+      | inl same ↦ ap (map.get (map.remove (map.insert a.paths id p) id)) same ∙ get_gone (map.insert a.paths id p) id
+          ∙ sym fresh ∙ ap (map.get a.paths) (sym same)
       | inr apart ↦ get_gone_other (map.insert a.paths id p) id q apart ∙ get_put_other a.paths id p q apart
     ]) in
     λ i. record { vertices = a.vertices; singles = a.singles; paths = maps i }
 
 -- with room for one more id the heaps hold what they held
-pub holds_reserved : (a : Arena) (h k : Heaps) (x y : ℕ) → HoldsPaths a h → HeapsFit k a → IsReserved h k x y → HoldsPaths a k
+pub holds_reserved : (a : Arena) (h k : Heaps) (x y : ℕ) → HoldsPaths a h → HeapsFit k a → IsReserved h k x y
+    → HoldsPaths a k
 holds_reserved a h k x y holds fits reserved = record {
   fits = fits;
   held = λ q u v edge ends. subst (λ xs. Contains xs q) (sym (same u v)) (holds.held q u v edge ends);
@@ -38,11 +41,13 @@ holds_reserved a h k x y holds fits reserved = record {
   where
     same : (u v : ℕ) → held_at k u v ≡ held_at h u v
     same u v = elim (same_pair x y u v) [
-      | inl there ↦ (λ i. held_at k (there.0 i) (there.1 i)) ∙ reserved.held ∙ (λ i. held_at h (sym there.0 i) (sym there.1 i))
+      | inl there ↦ (λ i. held_at k (there.0 i) (there.1 i)) ∙ reserved.held
+          ∙ (λ i. held_at h (sym there.0 i) (sym there.1 i))
       | inr apart ↦ ap (λ s. s.held) (reserved.only.others u v apart)
     ]
 
-pub stored_reserved : (b : Book) (h k : Heaps) (x y historical pending : ℕ) → IsStored b h historical pending → (HeapsFit h b.arena → HeapsFit k b.arena) → IsReserved h k x y → IsStored b k historical pending
+pub stored_reserved : (b : Book) (h k : Heaps) (x y historical pending : ℕ) → IsStored b h historical pending
+    → (HeapsFit h b.arena → HeapsFit k b.arena) → IsReserved h k x y → IsStored b k historical pending
 stored_reserved b h k x y historical pending stored fits reserved = record {
   book = stored.book;
   heaps = holds_reserved b.arena h k x y stored.heaps (fits stored.heaps.fits) reserved;
@@ -60,7 +65,10 @@ pub record AsksMet (b : Book) (now : Arena) (heaps : Heaps) (id : ℕ) : Type 0 
   pub new : IsHeld heaps id → ⊥
   pub lists : CanEnter now b.lists id
 
-pub asks_met : (b : Book) (id : ℕ) (p : Path) (h k : Heaps) (x y historical pending : ℕ) (now : Arena) → IsStored b h historical pending → IsNew b id p → now ≡ with_path b.arena id p → (HeapsFit h b.arena → HeapsFit k b.arena) → IsReserved h k x y → first p.list ≡ Some x → last p.list ≡ Some y → AsksMet b now k id
+pub asks_met : (b : Book) (id : ℕ) (p : Path) (h k : Heaps) (x y historical pending : ℕ) (now : Arena)
+    → IsStored b h historical pending → IsNew b id p → now ≡ with_path b.arena id p
+    → (HeapsFit h b.arena → HeapsFit k b.arena) → IsReserved h k x y → first p.list ≡ Some x → last p.list ≡ Some y
+    → AsksMet b now k id
 asks_met b id p h k x y historical pending now stored new is fits reserved from to = record {
   lawful = subst IsArena (sym is) new.arena;
   edge = subst (λ a. HasAnEdge a id) (sym is) (edge_now b id p stored.book new);
@@ -74,10 +82,12 @@ asks_met b id p h k x y historical pending now stored new is fits reserved from 
     marked_apart q mark = live_apart b.arena id q new.fresh (stored.book.marked_live q mark)
 
     left_apart : p.left ≡ Some id → ⊥
-    left_apart e = marked_apart (left_id p) new.left_marked (let two : Some (left_id p) ≡ Some id = sym new.left ∙ e in cc)
+    left_apart e =
+        marked_apart (left_id p) new.left_marked (let two : Some (left_id p) ≡ Some id = sym new.left ∙ e in cc)
 
     right_apart : p.right ≡ Some id → ⊥
-    right_apart e = marked_apart (right_id p) new.right_marked (let two : Some (right_id p) ≡ Some id = sym new.right ∙ e in cc)
+    right_apart e =
+        marked_apart (right_id p) new.right_marked (let two : Some (right_id p) ≡ Some id = sym new.right ∙ e in cc)
 
     fresh : IsFreshIn k now id
     fresh = fresh_in k b.arena now id p (fits stored.heaps.fits) new.fresh is
@@ -121,7 +131,9 @@ asks_met b id p h k x y historical pending now stored new is fits reserved from 
     }
 
 -- what an edge and a join are seen as
-pub new_edge : (b : Book) (id u v w birth : ℕ) → IsBook b → u < b.arena.vertices → v < b.arena.vertices → path_at b.arena id ≡ None → IsNewList b (u ∷ v ∷ []) → IsArena (with_path b.arena id (edge_path b.arena u v w birth)) → IsNew b id (edge_path b.arena u v w birth)
+pub new_edge : (b : Book) (id u v w birth : ℕ) → IsBook b → u < b.arena.vertices → v < b.arena.vertices
+    → path_at b.arena id ≡ None → IsNewList b (u ∷ v ∷ [])
+    → IsArena (with_path b.arena id (edge_path b.arena u v w birth)) → IsNew b id (edge_path b.arena u v w birth)
 new_edge b id u v w birth was from to fresh new lawful = record {
   fresh = fresh;
   left = refl;
@@ -132,7 +144,9 @@ new_edge b id u v w birth was from to fresh new lawful = record {
   arena = lawful;
 }
 
-pub new_join : (b : Book) (id l r birth : ℕ) → IsMarked b l → IsMarked b r → path_at b.arena id ≡ None → IsNewList b (joined_path b.arena l r birth).list → IsArena (with_path b.arena id (joined_path b.arena l r birth)) → IsNew b id (joined_path b.arena l r birth)
+pub new_join : (b : Book) (id l r birth : ℕ) → IsMarked b l → IsMarked b r → path_at b.arena id ≡ None
+    → IsNewList b (joined_path b.arena l r birth).list → IsArena (with_path b.arena id (joined_path b.arena l r birth))
+    → IsNew b id (joined_path b.arena l r birth)
 new_join b id l r birth left right fresh new lawful = record {
   fresh = fresh;
   left = refl;
@@ -145,24 +159,34 @@ new_join b id l r birth left right fresh new lawful = record {
 
 -- ---- afterwards
 
-pub record IsFormed (b : Book) (later : Arena) (lists : Known) (heaps : Heaps) (id : ℕ) (p : Path) (historical pending : ℕ) : Type 0 where
+pub record IsFormed (b : Book) (later : Arena) (lists : Known) (heaps : Heaps) (id : ℕ) (p : Path)
+    (historical pending : ℕ) : Type 0 where
   pub same : ◌≡◌ {A = Book} (record { arena = later; marked = b.marked; lists = lists }) (with_kept b id p)
   pub stored : IsStored (record { arena = later; marked = b.marked; lists = lists }) heaps historical (pending + 1)
 
-pub is_formed : (b : Book) (id : ℕ) (p : Path) (h k : Heaps) (historical pending : ℕ) (now later : Arena) (lists : Known) → IsStored b h historical pending → IsNew b id p → now ≡ with_path b.arena id p → later ≡ now → IsAdmitted later h k b.lists lists id → historical + pending < 2 ^ 48 → IsFormed b later lists k id p historical pending
+pub is_formed : (b : Book) (id : ℕ) (p : Path) (h k : Heaps) (historical pending : ℕ) (now later : Arena)
+    (lists : Known) → IsStored b h historical pending → IsNew b id p → now ≡ with_path b.arena id p → later ≡ now
+    → IsAdmitted later h k b.lists lists id → historical + pending < 2 ^ 48
+    → IsFormed b later lists k id p historical pending
 is_formed b id p h k historical pending now later lists stored new is kept adm room =
     let arenas : later ≡ with_path b.arena id p = kept ∙ is in
     let of : path_of later id ≡ p = ap (λ a. path_of a id) arenas ∙ path_of_new b id p stored.book new in
-    let entered_is : lists ≡ entered b.lists id (left_id p) (right_id p) = adm.entered_lists (left_id p) (right_id p) (ap (λ q. q.left) of ∙ new.left) (ap (λ q. q.right) of ∙ new.right) in
-    let books : ◌≡◌ {A = Book} (record { arena = later; marked = b.marked; lists = lists }) (with_kept b id p) = (λ i. record { arena = arenas i; marked = b.marked; lists = entered_is i }) in
+    let entered_is : lists ≡ entered b.lists id (left_id p) (right_id p) =
+    adm.entered_lists (left_id p) (right_id p) (ap (λ q. q.left) of ∙ new.left) (ap (λ q. q.right) of ∙ new.right)
+    in
+    let books : ◌≡◌ {A = Book} (record { arena = later; marked = b.marked; lists = lists }) (with_kept b id p) =
+    (λ i. record { arena = arenas i; marked = b.marked; lists = entered_is i }) in
     record {
       same = books;
       stored = subst (λ c. IsStored c k historical (pending + 1)) (sym books)
-          (stored_formed b id p stored.book new h h k b.lists lists historical pending stored stored.heaps (subst (λ a. IsAdmitted a h k b.lists lists id) arenas adm) room);
+          (stored_formed b id p stored.book new h h k b.lists lists historical pending stored stored.heaps
+          (subst (λ a. IsAdmitted a h k b.lists lists id) arenas adm) room);
     }
 
 -- where there was no memory for it
-pub is_taken_back : (b : Book) (id : ℕ) (p : Path) (now later : Arena) (lists : Known) → path_at b.arena id ≡ None → now ≡ with_path b.arena id p → later ≡ without_path now id → lists ≡ b.lists → ◌≡◌ {A = Book} (record { arena = later; marked = b.marked; lists = lists }) b
+pub is_taken_back : (b : Book) (id : ℕ) (p : Path) (now later : Arena) (lists : Known) → path_at b.arena id ≡ None
+    → now ≡ with_path b.arena id p → later ≡ without_path now id → lists ≡ b.lists
+    → ◌≡◌ {A = Book} (record { arena = later; marked = b.marked; lists = lists }) b
 is_taken_back b id p now later lists fresh is taken same =
     let arenas : later ≡ b.arena = taken ∙ ap (λ a. without_path a id) is ∙ added_and_taken b.arena id p fresh in
     λ i. record { arena = arenas i; marked = b.marked; lists = same i }
@@ -179,7 +203,8 @@ pub record JoinEnds (a : Arena) (h : Heaps) (l r birth x y : ℕ) : Type 0 where
   pub begins : first (joined_path a l r birth).list ≡ Some x
   pub finishes : last (joined_path a l r birth).list ≡ Some y
 
-pub join_ends : (a : Arena) (h : Heaps) (l r birth x y : ℕ) → IsArena a → HeapsFit h a → CanJoin a l r → first (list_of a l) ≡ Some x → last (list_of a r) ≡ Some y → JoinEnds a h l r birth x y
+pub join_ends : (a : Arena) (h : Heaps) (l r birth x y : ℕ) → IsArena a → HeapsFit h a → CanJoin a l r
+    → first (list_of a l) ≡ Some x → last (list_of a r) ≡ Some y → JoinEnds a h l r birth x y
 join_ends a h l r birth x y lawful fits can from to = record {
   from = (ends_in_rows h a l x back fits lawful (live_from_edge a l lawful can.left_live) (from, left_ends)).0;
   to = (ends_in_rows h a r front y fits lawful (live_from_edge a r lawful can.right_live) (right_begins, to)).1;
@@ -209,17 +234,29 @@ join_ends a h l r birth x y lawful fits can from to = record {
     right_begins = (first_is (list_of a r) long_right).1
 
 -- what is told at the ends that a room has is told at those that are these
-pub told_at : (room : Room) (x y : ℕ) (a : Arena) (told : Bool) (new old : Heaps) (id : ℕ) → room.x ≡ x → room.y ≡ y → TellsLeast a told new old id room.x room.y → TellsLeast a told new old id x y
-told_at room x y a told new old id from to tells = subst (λ u. TellsLeast a told new old id u y) from (subst (λ v. TellsLeast a told new old id room.x v) to tells)
+pub told_at : (room : Room) (x y : ℕ) (a : Arena) (told : Bool) (new old : Heaps) (id : ℕ) → room.x ≡ x → room.y ≡ y
+    → TellsLeast a told new old id room.x room.y → TellsLeast a told new old id x y
+told_at room x y a told new old id from to tells =
+    subst (λ u. TellsLeast a told new old id u y) from (subst (λ v. TellsLeast a told new old id room.x v) to tells)
 
 -- the ends of a path that is new in the arena
-pub new_ends : (b : Book) (id : ℕ) (p : Path) (now : Arena) (x y : ℕ) → IsBook b → IsNew b id p → now ≡ with_path b.arena id p → first p.list ≡ Some x → last p.list ≡ Some y → HasEnds now id x y
+pub new_ends : (b : Book) (id : ℕ) (p : Path) (now : Arena) (x y : ℕ) → IsBook b → IsNew b id p
+    → now ≡ with_path b.arena id p → first p.list ≡ Some x → last p.list ≡ Some y → HasEnds now id x y
 new_ends b id p now x y was new is begins finishes =
     let of : path_of now id ≡ p = ap (λ a. path_of a id) is ∙ path_of_new b id p was new in
     (ap (λ q. first q.list) of ∙ begins, ap (λ q. last q.list) of ∙ finishes)
 
 -- the parts and the ends of a join that is new in the arena
-pub join_known : (b : Book) (id l r birth : ℕ) (room : Room) (now : Arena) → IsBook b → IsNew b id (joined_path b.arena l r birth) → now ≡ with_path b.arena id (joined_path b.arena l r birth) → first (joined_path b.arena l r birth).list ≡ Some room.x → last (joined_path b.arena l r birth).list ≡ Some room.y → IsKnownPath now (record { id = id; left = l; right = r; room = room })
+pub join_known : (b : Book) (id l r birth : ℕ) (room : Room) (now : Arena) → IsBook b
+    → IsNew b id (joined_path b.arena l r birth) → now ≡ with_path b.arena id (joined_path b.arena l r birth)
+    → first (joined_path b.arena l r birth).list ≡ Some room.x → last (joined_path b.arena l r birth).list ≡ Some room.y
+    → IsKnownPath now (record { id = id; left = l; right = r; room = room })
 join_known b id l r birth room now was new is begins finishes =
-    let of : path_of now id ≡ joined_path b.arena l r birth = ap (λ a. path_of a id) is ∙ path_of_new b id (joined_path b.arena l r birth) was new in
-    record { left = ap (λ q. q.left) of; right = ap (λ q. q.right) of; ends = new_ends b id (joined_path b.arena l r birth) now room.x room.y was new is begins finishes }
+    let of : path_of now id ≡ joined_path b.arena l r birth =
+    ap (λ a. path_of a id) is ∙ path_of_new b id (joined_path b.arena l r birth) was new in
+    record {
+      left = ap (λ q. q.left) of;
+      right = ap (λ q. q.right) of;
+      ends = new_ends b id
+          (joined_path b.arena l r birth) now room.x room.y was new is begins finishes;
+    }

@@ -9,6 +9,7 @@ pub mod Admitting
 pub mod Formed
 pub mod Counts
 pub mod Promoted
+pub mod Unmarked
 pub mod Forgotten
 pub mod Readers
 pub mod Forms

@@ -18,7 +18,8 @@ use Rattle.path_book.proofs.Places.{marked_set, contains-marked_in}
 use Rattle.path_book.proofs.Sets.{marked_put, marked_put_other}
 use Rattle.path_book.proofs.Sides.{sides_other, known_put}
 
-pub opened_none : (a : Arena) (lists : Known) (marks : List Bool) → lists ≡ map.empty → marks ≡ [] → IsOpenedTo a lists marks 0
+pub opened_none : (a : Arena) (lists : Known) (marks : List Bool) → lists ≡ map.empty → marks ≡ []
+    → IsOpenedTo a lists marks 0
 opened_none a lists marks e f = record {
   known = λ id h. absurd (false≢true (sym (ap is_some (ap (λ m. map.get m id) e ∙ map.get-empty nat_cmp id)) ∙ h));
   to_known = λ u l. absurd (omega arith);
@@ -28,14 +29,16 @@ opened_none a lists marks e f = record {
 }
 
 -- two single vertices have two ids
-pub vertices_apart : (a : Arena) (u v : ℕ) → IsArena a → u < a.vertices → v < a.vertices → vertex_of a u ≡ vertex_of a v → u ≡ v
+pub vertices_apart : (a : Arena) (u v : ℕ) → IsArena a → u < a.vertices → v < a.vertices → vertex_of a u ≡ vertex_of a v
+    → u ≡ v
 vertices_apart a u v h l k same =
     let two : Some (single u) ≡ Some (single v) = sym (h.singles u l) ∙ ap (path_at a) same ∙ h.singles v k in
     let paths : single u ≡ single v = cc in
     let heads : Some u ≡ Some v = ap (λ p. first p.list) paths in
     cc
 
-pub not_known_yet : (a : Arena) (lists : Known) (marks : List Bool) (v id : ℕ) → IsArena a → v < a.vertices → id ≡ vertex_of a v → IsOpenedTo a lists marks v → IsNone (map.get lists id)
+pub not_known_yet : (a : Arena) (lists : Known) (marks : List Bool) (v id : ℕ) → IsArena a → v < a.vertices
+    → id ≡ vertex_of a v → IsOpenedTo a lists marks v → IsNone (map.get lists id)
 not_known_yet a lists marks v id h l is opened = go (map.get lists id) refl
   where
     go : (o : Option Sides) → map.get lists id ≡ o → IsNone (map.get lists id)
@@ -46,34 +49,42 @@ not_known_yet a lists marks v id h l is opened = go (map.get lists id) refl
         let same : k.0 ≡ v = vertices_apart a k.0 v h (omega arith) l (sym k.2 ∙ is) in
         absurd (omega arith)
 
-pub opened_more : (a : Arena) (lists later : Known) (marks room : List Bool) (v id key : ℕ) → IsArena a → v < a.vertices → id ≡ vertex_of a v → IsOpenedTo a lists marks v → later ≡ map.insert lists id no_sides → marked_in room ≡ marked_in marks → key ≡ id → key < length room → IsOpenedTo a later (slice_set room key true) (v + 1)
+pub opened_more : (a : Arena) (lists later : Known) (marks room : List Bool) (v id key : ℕ) → IsArena a → v < a.vertices
+    → id ≡ vertex_of a v → IsOpenedTo a lists marks v → later ≡ map.insert lists id no_sides
+    → marked_in room ≡ marked_in marks → key ≡ id → key < length room
+    → IsOpenedTo a later (slice_set room key true) (v + 1)
 opened_more a lists later marks room v id key h l is opened entered same here within = record {
   known = λ q k. (elim ((known_put lists id no_sides q).0 (subst (λ m. IsKnown m q) entered k)) [
     | inl before ↦ (let old = opened.known q before in let less : old.0 < v = old.1 in (old.0, omega arith, old.2))
     | inr now ↦ (v, omega arith, now ∙ is)
   ]);
-  to_known = λ u k. subst (λ m. IsKnown m (vertex_of a u)) (sym entered) ((known_put lists id no_sides (vertex_of a u)).1 (elim (cases_lt u v) [
-    | inl less ↦ inl (opened.to_known u less)
-    | inr more ↦ inr (let e : u ≡ v = omega arith in ap (vertex_of a) e ∙ sym is)
-  ]));
+  to_known =
+      λ u k. subst (λ m. IsKnown m (vertex_of a u)) (sym entered)
+      ((known_put lists id no_sides (vertex_of a u)).1 (elim (cases_lt u v) [
+        | inl less ↦ inl (opened.to_known u less)
+        | inr more ↦ inr (let e : u ≡ v = omega arith in ap (vertex_of a) e ∙ sym is)
+      ]));
   empty = λ q. ap (λ m. sides_at m q) entered ∙ elim (cases_eq q id) [
-    | inl e ↦ ap (sides_at (map.insert lists id no_sides)) e ∙ ap (λ o. unwrap_or o no_sides) (get_put lists id no_sides)
+    | inl e ↦ ap (sides_at (map.insert lists id no_sides)) e
+        ∙ ap (λ o. unwrap_or o no_sides) (get_put lists id no_sides)
     | inr apart ↦ sides_other lists id no_sides q apart ∙ opened.empty q
   ];
   marked = λ q k. elim (cases_eq q id) [
     | inl e ↦ (v, omega arith, e ∙ is)
     | inr apart ↦
-        let was : IsTrue (set.contains (marked_in marks) q) = sym (ap (λ s. set.contains s q) marks_are ∙ marked_put_other (marked_in marks) id q apart) ∙ k in
+        let was : IsTrue (set.contains (marked_in marks) q) =
+        sym (ap (λ s. set.contains s q) marks_are ∙ marked_put_other (marked_in marks) id q apart) ∙ k in
         let old = opened.marked q was in
         let less : old.0 < v = old.1 in
         (old.0, omega arith, old.2)
   ];
   to_marked = λ u k. ap (λ s. set.contains s (vertex_of a u)) marks_are ∙ elim (cases_eq (vertex_of a u) id) [
     | inl e ↦ ap (set.contains (set.insert (marked_in marks) id)) e ∙ marked_put (marked_in marks) id
-    | inr apart ↦ marked_put_other (marked_in marks) id (vertex_of a u) apart ∙ opened.to_marked u (elim (cases_lt u v) [
-      | inl less ↦ less
-      | inr more ↦ absurd (apart (let e : u ≡ v = omega arith in ap (vertex_of a) e ∙ sym is))
-    ])
+    | inr apart ↦ marked_put_other (marked_in marks) id (vertex_of a u) apart
+        ∙ opened.to_marked u (elim (cases_lt u v) [
+          | inl less ↦ less
+          | inr more ↦ absurd (apart (let e : u ≡ v = omega arith in ap (vertex_of a) e ∙ sym is))
+        ])
   ];
 }
   where
@@ -81,7 +92,9 @@ opened_more a lists later marks room v id key h l is opened entered same here wi
     marks_are = marked_set room key within ∙ (λ i. set.insert (same i) (here i))
 
 -- all single vertices make a book
-pub opened_all : (a : Arena) (h : Heaps) (lists : Known) (marks : List Bool) (n : ℕ) → IsArena a → IsOpening a n → HeapsFit h a → ((x y : ℕ) → held_at h x y ≡ []) → IsOpenedTo a lists marks n → IsStored (record { arena = a; marked = marked_in marks; lists = lists }) h 0 0
+pub opened_all : (a : Arena) (h : Heaps) (lists : Known) (marks : List Bool) (n : ℕ) → IsArena a → IsOpening a n
+    → HeapsFit h a → ((x y : ℕ) → held_at h x y ≡ []) → IsOpenedTo a lists marks n
+    → IsStored (record { arena = a; marked = marked_in marks; lists = lists }) h 0 0
 opened_all a h lists marks n lawful opening fits none opened = record {
   book = record {
     arena = lawful;
@@ -95,10 +108,28 @@ opened_all a h lists marks n lawful opening fits none opened = record {
         λ k. (let u = opened.known id k in subst (IsLive a) (sym u.2) (vertex_live u.0 u.1)),
         λ live. (let u = opening.live id live in subst (IsKnown lists) (sym u.2) (opened.to_known u.0 u.1)),
       );
-      left = λ k q. (λ c. absurd (in_nil q (subst (λ (s : Sides). Contains s.left q) (opened.empty k) c)), λ e. absurd (no_right q k e));
-      right = λ k q. (λ c. absurd (in_nil q (subst (λ (s : Sides). Contains s.right q) (opened.empty k) c)), λ e. absurd (no_left q k e));
-      left_star = λ k q. (λ c. absurd (in_nil q (subst (λ (s : Sides). Contains s.left_star q) (opened.empty k) c)), λ e. absurd (no_right q k e.0));
-      right_star = λ k q. (λ c. absurd (in_nil q (subst (λ (s : Sides). Contains s.right_star q) (opened.empty k) c)), λ e. absurd (no_left q k e.0));
+      left = λ k q. (
+        λ c. absurd (in_nil q (subst (λ (s : Sides). Contains s.left q) (opened.empty k) c)),
+        λ e. absurd
+            (no_right q k e),
+      );
+      right = λ k q. (
+        λ c. absurd (in_nil q (subst (λ (s : Sides). Contains s.right q) (opened.empty k) c)),
+        λ e. absurd
+            (no_left q k e),
+      );
+      left_star =
+          λ k q. (
+            λ c. absurd (in_nil q (subst (λ (s : Sides). Contains s.left_star q) (opened.empty k) c)),
+            λ e. absurd
+                (no_right q k e.0),
+          );
+      right_star =
+          λ k q. (
+            λ c. absurd (in_nil q (subst (λ (s : Sides). Contains s.right_star q) (opened.empty k) c)),
+            λ e.
+                absurd (no_left q k e.0),
+          );
     };
   };
   heaps = record {
@@ -117,10 +148,16 @@ opened_all a h lists marks n lawful opening fits none opened = record {
     -- the path of a live id
     single_of : (id : ℕ) → IsLive a id → (u : ℕ) × (u < n) × (id ≡ vertex_of a u) × (path_of a id ≡ single u)
     single_of id live =
-        let u = opening.live id live in
-        (u.0, u.1, u.2, ap (path_of a) u.2 ∙ path_of_at a (vertex_of a u.0) (single u.0) (lawful.singles u.0 (omega (arith, opening.vertices, u.1))))
+        let u = opening.live id live in (
+          u.0,
+          u.1,
+          u.2,
+          ap (path_of a) u.2
+              ∙ path_of_at a (vertex_of a u.0) (single u.0) (lawful.singles u.0 (omega (arith, opening.vertices, u.1))),
+        )
 
-    no_part : (part : Path → Option ℕ) → part no_path ≡ None → ((u : ℕ) → part (single u) ≡ None) → (id k : ℕ) → part (path_of a id) ≡ Some k → ⊥
+    no_part : (part : Path → Option ℕ) → part no_path ≡ None → ((u : ℕ) → part (single u) ≡ None) → (id k : ℕ)
+        → part (path_of a id) ≡ Some k → ⊥
     no_part part lacks alone id k e = go (path_at a id) refl
       where
         go : (o : Option Path) → path_at a id ≡ o → ⊥
@@ -144,6 +181,7 @@ opened_all a h lists marks n lawful opening fits none opened = record {
     once i j live_i live_j same =
         let u = single_of i live_i in
         let w = single_of j live_j in
-        let heads : Some u.0 ≡ Some w.0 = sym (ap (λ p. first p.list) u.3) ∙ ap first same ∙ ap (λ p. first p.list) w.3 in
+        let heads : Some u.0 ≡ Some w.0 =
+        sym (ap (λ p. first p.list) u.3) ∙ ap first same ∙ ap (λ p. first p.list) w.3 in
         let one : u.0 ≡ w.0 = cc in
         u.2 ∙ ap (vertex_of a) one ∙ sym w.2

@@ -30,10 +30,14 @@ module _ (b : Book) (id : ℕ) (was : IsBook b) (edge : HasAnEdge b.arena id) wh
       some_of (right_of b.arena id) (ap is_some (ap (λ q. q.right) p.of ∙ p.parts.right_is))
 
   pub known_left : IsKnown b.lists (left_id (path_of b.arena id))
-  known_left = (was.extensions.known (left_id (path_of b.arena id))).1 (was.marked_live (left_id (path_of b.arena id)) (was.left_marked id (left_id (path_of b.arena id)) left_is))
+  known_left =
+      (was.extensions.known (left_id (path_of b.arena id))).1
+      (was.marked_live (left_id (path_of b.arena id)) (was.left_marked id (left_id (path_of b.arena id)) left_is))
 
   pub known_right : IsKnown b.lists (right_id (path_of b.arena id))
-  known_right = (was.extensions.known (right_id (path_of b.arena id))).1 (was.marked_live (right_id (path_of b.arena id)) (was.right_marked id (right_id (path_of b.arena id)) right_is))
+  known_right =
+      (was.extensions.known (right_id (path_of b.arena id))).1
+      (was.marked_live (right_id (path_of b.arena id)) (was.right_marked id (right_id (path_of b.arena id)) right_is))
 
 module _ (b : Book) (id : ℕ) (was : IsBook b) (edge : HasAnEdge b.arena id) (pending : IsMarked b id → ⊥) where
   still_marked : (q : ℕ) → IsMarked b q → IsTrue (set.contains (set.insert b.marked id) q)
@@ -43,19 +47,31 @@ module _ (b : Book) (id : ℕ) (was : IsBook b) (edge : HasAnEdge b.arena id) (p
   ]
 
   -- the marks of the paths of which a part is k
-  star_with : (part : Path → Option ℕ) (key : ℕ) → part (path_of b.arena id) ≡ Some key → (k q : ℕ) → ((part (path_of b.arena q) ≡ Some k) × IsTrue (set.contains (set.insert b.marked id) q)) ↔ (((part (path_of b.arena q) ≡ Some k) × IsMarked b q) ⊎ (IsTrue (k == key) × (q ≡ id)))
+  star_with : (part : Path → Option ℕ) (key : ℕ) → part (path_of b.arena id) ≡ Some key → (k q : ℕ)
+      → ((part (path_of b.arena q) ≡ Some k) × IsTrue (set.contains (set.insert b.marked id) q)) ↔
+      (((part (path_of b.arena q) ≡ Some k) × IsMarked b q) ⊎ (IsTrue (k == key) × (q ≡ id)))
   star_with part key is k q = (
     λ h. elim (cases_eq q id) [
-      | inl same ↦ inr (eq-eqb k key (let two : Some k ≡ Some key = sym h.0 ∙ ap (λ j. part (path_of b.arena j)) same ∙ is in cc), same)
+      | inl same ↦ inr (
+        eq-eqb k key (let two : Some k ≡ Some key = sym h.0 ∙ ap (λ j. part (path_of b.arena j)) same
+            ∙ is in cc),
+        same,
+      )
       | inr apart ↦ inl (h.0, sym (marked_put_other b.marked id q apart) ∙ h.1)
     ],
     λ h. elim h [
       | inl before ↦ (before.0, still_marked q before.1)
-      | inr now ↦ (ap (λ j. part (path_of b.arena j)) now.1 ∙ is ∙ ap Some (sym (eqb-true k key now.0)), ap (set.contains (set.insert b.marked id)) now.1 ∙ marked_put b.marked id)
+      | inr now ↦ (
+        ap (λ j. part (path_of b.arena j)) now.1 ∙ is
+            ∙ ap Some (sym (eqb-true k key now.0)),
+        ap (set.contains (set.insert b.marked id)) now.1
+            ∙ marked_put b.marked id,
+      )
     ],
   )
 
-  module _ (lists : Known) (starred : IsStarred b.lists lists id (left_id (path_of b.arena id)) (right_id (path_of b.arena id))) where
+  module _ (lists : Known) (starred : IsStarred b.lists lists id (left_id (path_of b.arena id))
+      (right_id (path_of b.arena id))) where
     pub extensions_promoted : HasExtensions b.arena (set.insert b.marked id) lists
     extensions_promoted = record {
       known = λ q. (
@@ -72,14 +88,18 @@ module _ (b : Book) (id : ℕ) (was : IsBook b) (edge : HasAnEdge b.arena id) (p
       );
       left_star = λ k q.
           grown (sides_at b.lists k).left_star (sides_at lists k).left_star id (k == right_id (path_of b.arena id))
-          (λ j. (right_of b.arena j ≡ Some k) × IsMarked b j) (λ j. (right_of b.arena j ≡ Some k) × IsTrue (set.contains (set.insert b.marked id) j))
+          (λ j. (right_of b.arena j ≡ Some k) × IsMarked b j)
+          (λ j. (right_of b.arena j ≡ Some k) × IsTrue (set.contains (set.insert b.marked id) j))
           (starred.left_star k)
-          (was.extensions.left_star k) (star_with (λ p. p.right) (right_id (path_of b.arena id)) (right_is b id was edge) k) q;
+          (was.extensions.left_star k) (star_with (λ p. p.right) (right_id (path_of b.arena id))
+          (right_is b id was edge) k) q;
       right_star = λ k q.
           grown (sides_at b.lists k).right_star (sides_at lists k).right_star id (k == left_id (path_of b.arena id))
-          (λ j. (left_of b.arena j ≡ Some k) × IsMarked b j) (λ j. (left_of b.arena j ≡ Some k) × IsTrue (set.contains (set.insert b.marked id) j))
+          (λ j. (left_of b.arena j ≡ Some k) × IsMarked b j)
+          (λ j. (left_of b.arena j ≡ Some k) × IsTrue (set.contains (set.insert b.marked id) j))
           (starred.right_star k)
-          (was.extensions.right_star k) (star_with (λ p. p.left) (left_id (path_of b.arena id)) (left_is b id was edge) k) q;
+          (was.extensions.right_star k) (star_with (λ p. p.left) (left_id (path_of b.arena id)) (left_is b id was edge)
+          k) q;
     }
 
     pub book_promoted : IsBook (with_mark b id lists)
@@ -105,9 +125,11 @@ module _ (b : Book) (id : ℕ) (was : IsBook b) (edge : HasAnEdge b.arena id) (p
 
   -- a path of the same list is this one
   same_id : (i : ℕ) → HasAnEdge b.arena i → list_of b.arena i ≡ list_of b.arena id → i ≡ id
-  same_id i edge_i same = was.once i id (live_from_edge b.arena i was.arena edge_i) (live_from_edge b.arena id was.arena edge) same
+  same_id i edge_i same =
+      was.once i id (live_from_edge b.arena i was.arena edge_i) (live_from_edge b.arena id was.arena edge) same
 
-  pub historical_promoted : (lists : Known) (n : ℕ) → CountIs (IsCounted b true) n → CountIs (IsCounted (with_mark b id lists) true) (n + 1)
+  pub historical_promoted : (lists : Known) (n : ℕ) → CountIs (IsCounted b true) n
+      → CountIs (IsCounted (with_mark b id lists) true) (n + 1)
   historical_promoted lists n c =
       count_more (IsCounted b true) (IsCounted (with_mark b id lists) true) n (list_of b.arena id)
       (λ h. (let e : h.0 ≡ id = same_id h.0 h.1 h.2 in pending (sym (ap (set.contains b.marked) e) ∙ h.3)))
@@ -122,13 +144,20 @@ module _ (b : Book) (id : ℕ) (was : IsBook b) (edge : HasAnEdge b.arena id) (p
         ],
       )) c
 
-  pub pending_promoted : (lists : Known) (n : ℕ) → CountIs (IsCounted b false) n → (1 ≤ n) × CountIs (IsCounted (with_mark b id lists) false) (n - 1)
+  pub pending_promoted : (lists : Known) (n : ℕ) → CountIs (IsCounted b false) n → (1 ≤ n)
+      × CountIs (IsCounted (with_mark b id lists) false) (n - 1)
   pending_promoted lists n c =
-      count_less (IsCounted b false) (IsCounted (with_mark b id lists) false) n (list_of b.arena id) (id, edge, refl, down)
+      count_less (IsCounted b false) (IsCounted (with_mark b id lists) false) n (list_of b.arena id)
+      (id, edge, refl, down)
       (λ q. (
         λ h. (
-            let apart : h.0 ≢ id = λ same. (false≢true (sym h.3 ∙ ap (set.contains (set.insert b.marked id)) same ∙ marked_put b.marked id)) in
-            ((h.0, h.1, h.2, sym (marked_put_other b.marked id h.0 apart) ∙ h.3), λ same. apart (same_id h.0 h.1 (h.2 ∙ same)))
+            let apart : h.0 ≢ id =
+            λ same. (false≢true (sym h.3 ∙ ap (set.contains (set.insert b.marked id)) same
+            ∙ marked_put b.marked id)) in (
+              (h.0, h.1, h.2, sym (marked_put_other b.marked id h.0 apart) ∙ h.3),
+              λ same. apart
+                  (same_id h.0 h.1 (h.2 ∙ same)),
+            )
             ),
         λ h. (
             let apart : h.0.0 ≢ id = λ same. h.1 (sym h.0.2 ∙ ap (list_of b.arena) same) in
@@ -136,7 +165,9 @@ module _ (b : Book) (id : ℕ) (was : IsBook b) (edge : HasAnEdge b.arena id) (p
             ),
       )) c
 
-  pub stored_promoted : (lists : Known) → IsStarred b.lists lists id (left_id (path_of b.arena id)) (right_id (path_of b.arena id)) → (held : Heaps) (historical waiting : ℕ) → IsStored b held historical waiting → (1 ≤ waiting) × IsStored (with_mark b id lists) held (historical + 1) (waiting - 1)
+  pub stored_promoted : (lists : Known) → IsStarred b.lists lists id (left_id (path_of b.arena id))
+      (right_id (path_of b.arena id)) → (held : Heaps) (historical waiting : ℕ) → IsStored b held historical waiting
+      → (1 ≤ waiting) × IsStored (with_mark b id lists) held (historical + 1) (waiting - 1)
   stored_promoted lists starred held historical waiting stored =
       let less = pending_promoted lists waiting stored.pending_count in
       let some : 1 ≤ waiting = less.0 in
@@ -152,13 +183,18 @@ module _ (b : Book) (id : ℕ) (was : IsBook b) (edge : HasAnEdge b.arena id) (p
       )
 
 -- the starred lists of the parts are longer
-pub is_starred : (b : Book) (id l r : ℕ) (lists : Known) → left_of b.arena id ≡ Some l → right_of b.arena id ≡ Some r → IsStarred b.lists lists id l r → IsStarred b.lists lists id (left_id (path_of b.arena id)) (right_id (path_of b.arena id))
+pub is_starred : (b : Book) (id l r : ℕ) (lists : Known) → left_of b.arena id ≡ Some l → right_of b.arena id ≡ Some r
+    → IsStarred b.lists lists id l r → IsStarred b.lists lists id (left_id (path_of b.arena id))
+    (right_id (path_of b.arena id))
 is_starred b id l r lists left right starred =
     subst (λ m. IsStarred b.lists lists id m (right_id (path_of b.arena id))) (ap (λ o. unwrap_or o 0) (sym left))
     (subst (λ m. IsStarred b.lists lists id l m) (ap (λ o. unwrap_or o 0) (sym right)) starred)
 
 -- the book with a mark set and these lists
-pub is_promoted : (b : Book) (marks : List Bool) (id key : ℕ) (lists : Known) → marked_in marks ≡ b.marked → key ≡ id → key < length marks → ◌≡◌ {A = Book} (record { arena = b.arena; marked = marked_in (slice_set marks key true); lists = lists }) (with_mark b id lists)
+pub is_promoted : (b : Book) (marks : List Bool) (id key : ℕ) (lists : Known) → marked_in marks ≡ b.marked → key ≡ id
+    → key < length marks → ◌≡◌ {A = Book}
+    (record { arena = b.arena; marked = marked_in (slice_set marks key true); lists = lists }) (with_mark b id lists)
 is_promoted b marks id key lists same here room =
-    let marked : marked_in (slice_set marks key true) ≡ set.insert b.marked id = marked_set marks key room ∙ (λ i. set.insert (same i) (here i)) in
+    let marked : marked_in (slice_set marks key true) ≡ set.insert b.marked id =
+    marked_set marks key room ∙ (λ i. set.insert (same i) (here i)) in
     λ i. record { arena = b.arena; marked = marked i; lists = lists }

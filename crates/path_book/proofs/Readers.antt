@@ -19,10 +19,12 @@ use Rattle.path_book.specs.Layout.{IsCounted, IsStored}
 use Rattle.path_book.proofs.Kept.{kept_live, historical_marked}
 
 -- a live path is a single vertex or has an edge
-pub single_or_edge : (a : Arena) (id : ℕ) → IsArena a → IsLive a id → ((v : ℕ) × (v < a.vertices) × (id ≡ vertex_of a v) × (list_of a id ≡ v ∷ [])) ⊎ HasAnEdge a id
+pub single_or_edge : (a : Arena) (id : ℕ) → IsArena a → IsLive a id
+    → ((v : ℕ) × (v < a.vertices) × (id ≡ vertex_of a v) × (list_of a id ≡ v ∷ [])) ⊎ HasAnEdge a id
 single_or_edge a id h live = go (live_path a id live)
   where
-    go : (p : Path) × (path_at a id ≡ Some p) → ((v : ℕ) × (v < a.vertices) × (id ≡ vertex_of a v) × (list_of a id ≡ v ∷ [])) ⊎ HasAnEdge a id
+    go : (p : Path) × (path_at a id ≡ Some p)
+        → ((v : ℕ) × (v < a.vertices) × (id ≡ vertex_of a v) × (list_of a id ≡ v ∷ [])) ⊎ HasAnEdge a id
     go (p, e) = elim (h.paths id p e).kind [
       | inl one ↦ inl (one.0, one.1, one.2, ap (λ q. q.list) (path_of_at a id p e ∙ one.3))
       | inr parts ↦ inr (ap is_some (ap (λ q. q.left) (path_of_at a id p e) ∙ parts.left_is))
@@ -48,36 +50,51 @@ module _ (b : Book) (was : IsBook b) where
     λ h. elim h [ inl c ↦ there true c | inr c ↦ there false c ],
     λ h. (
         let k = (kept_live b p).0 h.0 in
-        let edge : HasAnEdge b.arena k.0 = edge_of_long b.arena k.0 was.arena k.1 (subst (λ q. 1 < length q) (sym k.2) h.1) in
+        let edge : HasAnEdge b.arena k.0 =
+        edge_of_long b.arena k.0 was.arena k.1 (subst (λ q. 1 < length q) (sym k.2) h.1) in
         by_mark k.0 edge k.2 (set.contains b.marked k.0) refl
         ),
   )
     where
       there : (o : Bool) → IsCounted b o p → IsKeptIn (kept_paths b) p × IsWithEdge p
-      there o c = ((kept_live b p).1 (c.0, live_from_edge b.arena c.0 was.arena c.1, c.2), subst (λ q. 1 < length q) c.2 (long_of_edge b.arena c.0 was.arena c.1))
+      there o c = (
+        (kept_live b p).1 (c.0, live_from_edge b.arena c.0 was.arena c.1, c.2),
+        subst (λ q. 1 < length q) c.2
+            (long_of_edge b.arena c.0 was.arena c.1),
+      )
 
-      by_mark : (id : ℕ) → HasAnEdge b.arena id → list_of b.arena id ≡ p → (o : Bool) → set.contains b.marked id ≡ o → IsCounted b true p ⊎ IsCounted b false p
+      by_mark : (id : ℕ) → HasAnEdge b.arena id → list_of b.arena id ≡ p → (o : Bool) → set.contains b.marked id ≡ o
+          → IsCounted b true p ⊎ IsCounted b false p
       by_mark id edge list true e = inl (id, edge, list, e)
       by_mark id edge list false e = inr (id, edge, list, e)
 
   historical_counted : (p : List ℕ) → IsCounted b true p ↔ (IsHistoricalIn (kept_paths b) p × IsWithEdge p)
   historical_counted p = (
-    λ c. ((historical_marked b p).1 (c.0, live_from_edge b.arena c.0 was.arena c.1, c.2, c.3), subst (λ q. 1 < length q) c.2 (long_of_edge b.arena c.0 was.arena c.1)),
-    λ h. (let k = (historical_marked b p).0 h.0 in (k.0, edge_of_long b.arena k.0 was.arena k.1 (subst (λ q. 1 < length q) (sym k.2) h.1), k.2, k.3)),
+    λ c. (
+      (historical_marked b p).1 (c.0, live_from_edge b.arena c.0 was.arena c.1, c.2, c.3),
+      subst (λ q. 1 < length q)
+          c.2 (long_of_edge b.arena c.0 was.arena c.1),
+    ),
+    λ h. (let k = (historical_marked b p).0 h.0 in
+        (k.0, edge_of_long b.arena k.0 was.arena k.1 (subst (λ q. 1 < length q) (sym k.2) h.1), k.2, k.3)),
   )
 
   apart : (p : List ℕ) → IsCounted b true p → IsCounted b false p → ⊥
   apart p c d =
-      let same : c.0 ≡ d.0 = was.once c.0 d.0 (live_from_edge b.arena c.0 was.arena c.1) (live_from_edge b.arena d.0 was.arena d.1) (c.2 ∙ sym d.2) in
+      let same : c.0 ≡ d.0 =
+      was.once c.0 d.0 (live_from_edge b.arena c.0 was.arena c.1) (live_from_edge b.arena d.0 was.arena d.1)
+      (c.2 ∙ sym d.2) in
       true≢false (sym c.3 ∙ ap (set.contains b.marked) same ∙ d.3)
 
   pub paths_count : (m n : ℕ) → CountIs (IsCounted b true) m → CountIs (IsCounted b false) n → PathsCount b (m + n)
   paths_count m n c d =
-      count_same (λ p. IsCounted b true p ⊎ IsCounted b false p) (λ p. IsKeptIn (kept_paths b) p × IsWithEdge p) (m + n) kept_counted
+      count_same (λ p. IsCounted b true p ⊎ IsCounted b false p) (λ p. IsKeptIn (kept_paths b) p × IsWithEdge p) (m + n)
+      kept_counted
       (count_either (IsCounted b true) (IsCounted b false) m n apart c d)
 
   pub historical_count : (m : ℕ) → CountIs (IsCounted b true) m → HistoricalCount b m
-  historical_count m c = count_same (IsCounted b true) (λ p. IsHistoricalIn (kept_paths b) p × IsWithEdge p) m historical_counted c
+  historical_count m c =
+      count_same (IsCounted b true) (λ p. IsHistoricalIn (kept_paths b) p × IsWithEdge p) m historical_counted c
 
 -- ---- the least of a pair
 
@@ -87,7 +104,9 @@ last_of_one v x y p e f l =
     let two : Some v ≡ Some y = sym (ap last e) ∙ l in
     cc
 
-pub least_kept : (b : Book) (held : Heaps) (historical pending x y : ℕ) → IsStored b held historical pending → x ≢ y → (o : Option ℕ) → IfSome o (IsLeastHeld held x y) → IsNone o ↔ (held_at held x y ≡ []) → MatchOption o (KeepsNone b x y) (IsLeastKeptId b x y)
+pub least_kept : (b : Book) (held : Heaps) (historical pending x y : ℕ) → IsStored b held historical pending → x ≢ y
+    → (o : Option ℕ) → IfSome o (IsLeastHeld held x y) → IsNone o ↔ (held_at held x y ≡ [])
+    → MatchOption o (KeepsNone b x y) (IsLeastKeptId b x y)
 least_kept b held historical pending x y stored apart None least none = λ q live ends. (
     let c : Contains (held_at held x y) q = held_of q live ends in
     let empty : held_at held x y ≡ [] = none.0 refl in
@@ -131,14 +150,22 @@ ends_apart b was id x y edge ends same =
     let p = live_path b.arena id live in
     let list : list_of b.arena id ≡ p.0.list = ap (λ r. r.list) (path_of_at b.arena id p.0 p.1) in
     let simple : IsSimple (list_of b.arena id) = subst IsSimple (sym list) (was.arena.paths id p.0 p.1).simple in
-    let one : list_of b.arena id ≡ x ∷ [] = simple_turn x (list_of b.arena id) simple ends.0 (ends.1 ∙ ap Some (sym same)) in
+    let one : list_of b.arena id ≡ x ∷ [] =
+    simple_turn x (list_of b.arena id) simple ends.0 (ends.1 ∙ ap Some (sym same)) in
     omega (arith, ap length one, long_of_edge b.arena id was.arena edge)
 
 -- what the heaps tell of a path that is new in them
-pub tells_kept : (b : Book) (held old : Heaps) (historical pending x y id : ℕ) (told : Bool) → IsStored b held historical pending → TellsLeast b.arena told held old id x y → (IsHeld old id → ⊥) → TellsLeastKept b x y id told
+pub tells_kept : (b : Book) (held old : Heaps) (historical pending x y id : ℕ) (told : Bool)
+    → IsStored b held historical pending → TellsLeast b.arena told held old id x y → (IsHeld old id → ⊥)
+    → TellsLeastKept b x y id told
 tells_kept b held old historical pending x y id told stored tells new = record {
   yes = λ e. least id (tells.yes e);
-  no = λ e. (let q = tells.no e in (q.0, λ same. new (x, y, subst (Contains (held_at old x y)) same q.2.held), least q.0 q.1));
+  no = λ e. (let q = tells.no e in (
+    q.0,
+    λ same. new (x, y, subst (Contains (held_at old x y)) same q.2.held),
+    least q.0
+        q.1,
+  ));
 }
   where
     least : (q : ℕ) → IsLeastIn b.arena held x y q → IsLeastKeptId b x y q
@@ -159,8 +186,10 @@ tells_kept b held old historical pending x y id told stored tells new = record {
 
 pub least_single : (b : Book) → IsBook b → (x : ℕ) → x < b.arena.vertices → IsLeastKeptId b x x (vertex_of b.arena x)
 least_single b was x l =
-    let there : path_of b.arena (vertex_of b.arena x) ≡ single x = path_of_at b.arena (vertex_of b.arena x) (single x) (was.arena.singles x l) in
-    let live : IsLive b.arena (vertex_of b.arena x) = live_from b.arena (vertex_of b.arena x) (single x) (was.arena.singles x l) in
+    let there : path_of b.arena (vertex_of b.arena x) ≡ single x =
+    path_of_at b.arena (vertex_of b.arena x) (single x) (was.arena.singles x l) in
+    let live : IsLive b.arena (vertex_of b.arena x) =
+    live_from b.arena (vertex_of b.arena x) (single x) (was.arena.singles x l) in
     record {
       live = live;
       ends = (ap (λ p. first p.list) there, ap (λ p. last p.list) there);
@@ -169,8 +198,10 @@ least_single b was x l =
           let list : list_of b.arena q ≡ p.0.list = ap (λ r. r.list) (path_of_at b.arena q p.0 p.1) in
           let simple : IsSimple (list_of b.arena q) = subst IsSimple (sym list) (was.arena.paths q p.0 p.1).simple in
           let one : list_of b.arena q ≡ x ∷ [] = simple_turn x (list_of b.arena q) simple ends.0 ends.1 in
-          let same : q ≡ vertex_of b.arena x = was.once q (vertex_of b.arena x) live_q live (one ∙ sym (ap (λ r. r.list) there)) in
-          not_below_itself b.arena (vertex_of b.arena x) (subst (λ j. id_cmp b.arena j (vertex_of b.arena x) ≡ Less) same below)
+          let same : q ≡ vertex_of b.arena x =
+          was.once q (vertex_of b.arena x) live_q live (one ∙ sym (ap (λ r. r.list) there)) in
+          not_below_itself b.arena (vertex_of b.arena x)
+          (subst (λ j. id_cmp b.arena j (vertex_of b.arena x) ≡ Less) same below)
           );
     }
 

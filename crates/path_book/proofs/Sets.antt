@@ -11,22 +11,30 @@ pub marked_put : (s : set.FinSet nat_cmp) (k : ℕ) → set.contains (set.insert
 marked_put s k = set.contains-insert nat_cmp_total s k k ∙ ap (λ b. b || set.contains s k) (tied_key k)
 
 pub marked_put_other : (s : set.FinSet nat_cmp) (k q : ℕ) → q ≢ k → set.contains (set.insert s k) q ≡ set.contains s q
-marked_put_other s k q apart = set.contains-insert nat_cmp_total s k q ∙ ap (λ b. b || set.contains s q) (apart_key k q apart)
+marked_put_other s k q apart =
+    set.contains-insert nat_cmp_total s k q ∙ ap (λ b. b || set.contains s q) (apart_key k q apart)
 
 pub marked_gone : (s : set.FinSet nat_cmp) (k : ℕ) → set.contains (set.remove s k) k ≡ false
 marked_gone s k = set.contains-remove nat_cmp_total s k k ∙ ap (λ b. not b && set.contains s k) (tied_key k)
 
 pub marked_gone_other : (s : set.FinSet nat_cmp) (k q : ℕ) → q ≢ k → set.contains (set.remove s k) q ≡ set.contains s q
-marked_gone_other s k q apart = set.contains-remove nat_cmp_total s k q ∙ ap (λ b. not b && set.contains s q) (apart_key k q apart)
+marked_gone_other s k q apart =
+    set.contains-remove nat_cmp_total s k q ∙ ap (λ b. not b && set.contains s q) (apart_key k q apart)
 
-pub same_put : (s t : set.FinSet nat_cmp) (k : ℕ) → set.contains t k ≡ true → ((q : ℕ) → q ≢ k → set.contains t q ≡ set.contains s q) → t ≡ set.insert s k
-same_put s t k here others = set.same_set nat_cmp_total set.nat_cmp-IsAntisymmetric t (set.insert s k) (λ q. elim (cases_eq q k) [
-  | inl same ↦ ap (set.contains t) same ∙ here ∙ sym (marked_put s k) ∙ ap (set.contains (set.insert s k)) (sym same)
-  | inr apart ↦ others q apart ∙ sym (marked_put_other s k q apart)
-])
+pub same_put : (s t : set.FinSet nat_cmp) (k : ℕ) → set.contains t k ≡ true
+    → ((q : ℕ) → q ≢ k → set.contains t q ≡ set.contains s q) → t ≡ set.insert s k
+same_put s t k here others =
+    set.same_set nat_cmp_total set.nat_cmp-IsAntisymmetric t (set.insert s k) (λ q. elim (cases_eq q k) [
+      | inl same ↦ ap (set.contains t) same ∙ here ∙ sym (marked_put s k)
+          ∙ ap (set.contains (set.insert s k)) (sym same)
+      | inr apart ↦ others q apart ∙ sym (marked_put_other s k q apart)
+    ])
 
-pub same_gone : (s t : set.FinSet nat_cmp) (k : ℕ) → set.contains t k ≡ false → ((q : ℕ) → q ≢ k → set.contains t q ≡ set.contains s q) → t ≡ set.remove s k
-same_gone s t k here others = set.same_set nat_cmp_total set.nat_cmp-IsAntisymmetric t (set.remove s k) (λ q. elim (cases_eq q k) [
-  | inl same ↦ ap (set.contains t) same ∙ here ∙ sym (marked_gone s k) ∙ ap (set.contains (set.remove s k)) (sym same)
-  | inr apart ↦ others q apart ∙ sym (marked_gone_other s k q apart)
-])
+pub same_gone : (s t : set.FinSet nat_cmp) (k : ℕ) → set.contains t k ≡ false
+    → ((q : ℕ) → q ≢ k → set.contains t q ≡ set.contains s q) → t ≡ set.remove s k
+same_gone s t k here others =
+    set.same_set nat_cmp_total set.nat_cmp-IsAntisymmetric t (set.remove s k) (λ q. elim (cases_eq q k) [
+      | inl same ↦ ap (set.contains t) same ∙ here ∙ sym (marked_gone s k)
+          ∙ ap (set.contains (set.remove s k)) (sym same)
+      | inr apart ↦ others q apart ∙ sym (marked_gone_other s k q apart)
+    ])

@@ -38,13 +38,18 @@ no_edges_yet b n v was opening = record {
     edgeless q edge =
         let u = opening.live q (live_from_edge b.arena q was.arena edge) in
         let inside : u.0 < b.arena.vertices = (let l : u.0 < n = u.1 in omega (arith, opening.vertices)) in
-        let none : left_of b.arena q ≡ None = ap (left_of b.arena) u.2 ∙ ap (λ p. p.left) (path_of_at b.arena (vertex_of b.arena u.0) (single u.0) (was.arena.singles u.0 inside)) in
+        let none : left_of b.arena q ≡ None =
+        ap (left_of b.arena) u.2 ∙ ap (λ p. p.left)
+        (path_of_at b.arena (vertex_of b.arena u.0) (single u.0) (was.arena.singles u.0 inside)) in
         false≢true (sym (ap is_some none) ∙ edge)
 
-pub edges_marked : (b c : Book) (id v : ℕ) (ids : List ℕ) (lists : Known) → c ≡ with_mark b id lists → AreEdges b v ids → AreEdges c v ids
-edges_marked b c id v ids lists is e = subst (λ (d : Book). AreEdges d v ids) (sym is) (record { exact = e.exact; once = e.once; short = e.short })
+pub edges_marked : (b c : Book) (id v : ℕ) (ids : List ℕ) (lists : Known) → c ≡ with_mark b id lists → AreEdges b v ids
+    → AreEdges c v ids
+edges_marked b c id v ids lists is e =
+    subst (λ (d : Book). AreEdges d v ids) (sym is) (record { exact = e.exact; once = e.once; short = e.short })
 
-pub new_marked : (b c : Book) (id : ℕ) (lists : Known) (list : List ℕ) → c ≡ with_mark b id lists → IsNewList b list → IsNewList c list
+pub new_marked : (b c : Book) (id : ℕ) (lists : Known) (list : List ℕ) → c ≡ with_mark b id lists → IsNewList b list
+    → IsNewList c list
 new_marked b c id lists list is new = subst (λ (d : Book). IsNewList d list) (sym is) new
 
 once_back : (xs : List ℕ) (x : ℕ) → IsOnceEach xs → (Contains xs x → ⊥) → IsOnceEach (xs ++ x ∷ [])
@@ -58,24 +63,37 @@ once_back (y ∷ xs) x once out = (
 )
 
 -- one edge more
-module _ (b c : Book) (id : ℕ) (p : Path) (v : ℕ) (ids : List ℕ) (fresh : path_at b.arena id ≡ None) (is : c ≡ with_kept b id p) (e : AreEdges b v ids) where
+module _ (b c : Book) (id : ℕ) (p : Path) (v : ℕ) (ids : List ℕ) (fresh : path_at b.arena id ≡ None)
+    (is : c ≡ with_kept b id p) (e : AreEdges b v ids) where
   of_new : path_of c.arena id ≡ p
-  of_new = ap (λ (d : Book). path_of d.arena id) is ∙ path_of_at (with_path b.arena id p) id p (get_put b.arena.paths id p)
+  of_new = ap (λ (d : Book). path_of d.arena id) is
+      ∙ path_of_at (with_path b.arena id p) id p (get_put b.arena.paths id p)
 
   of_old : (q : ℕ) → q ≢ id → path_of c.arena q ≡ path_of b.arena q
-  of_old q apart = ap (λ (d : Book). path_of d.arena q) is ∙ ap (λ o. unwrap_or o no_path) (get_put_other b.arena.paths id p q apart)
+  of_old q apart =
+      ap (λ (d : Book). path_of d.arena q) is ∙ ap (λ o. unwrap_or o no_path) (get_put_other b.arena.paths id p q apart)
 
   -- what had an edge before is another path
   other : (q : ℕ) → HasAnEdge b.arena q → q ≢ id
-  other q edge same = false≢true (sym (ap (λ o. is_some (unwrap_or o no_path).left) fresh) ∙ ap (λ j. is_some (left_of b.arena j)) (sym same) ∙ edge)
+  other q edge same =
+      false≢true (sym (ap (λ o. is_some (unwrap_or o no_path).left) fresh)
+      ∙ ap (λ j. is_some (left_of b.arena j)) (sym same) ∙ edge)
 
   stands : (q : ℕ) → Contains ids q → q ≢ id
   stands q k = other q ((e.exact q).0 k).0
 
   still : (q : ℕ) → q ≢ id → IsThrough b v q ↔ IsThrough c v q
   still q apart = (
-    λ h. (ap (λ (r : Path). is_some r.left) (of_old q apart) ∙ h.0, subst (λ (r : Path). Contains r.list v) (sym (of_old q apart)) h.1),
-    λ h. (ap (λ (r : Path). is_some r.left) (sym (of_old q apart)) ∙ h.0, subst (λ (r : Path). Contains r.list v) (of_old q apart) h.1),
+    λ h. (
+      ap (λ (r : Path). is_some r.left) (of_old q apart)
+          ∙ h.0,
+      subst (λ (r : Path). Contains r.list v) (sym (of_old q apart)) h.1,
+    ),
+    λ h. (
+      ap (λ (r : Path). is_some r.left) (sym (of_old q apart))
+          ∙ h.0,
+      subst (λ (r : Path). Contains r.list v) (of_old q apart) h.1,
+    ),
   )
 
   as_short : (q : ℕ) → Contains ids q → hops_at c q ≡ 1
@@ -114,4 +132,8 @@ module _ (b c : Book) (id : ℕ) (p : Path) (v : ℕ) (ids : List ℕ) (fresh : 
   }
     where
       here : IsThrough c v id
-      here = (ap (λ (r : Path). is_some r.left) of_new ∙ edge, subst (λ (r : Path). Contains r.list v) (sym of_new) passes)
+      here = (
+        ap (λ (r : Path). is_some r.left) of_new
+            ∙ edge,
+        subst (λ (r : Path). Contains r.list v) (sym of_new) passes,
+      )

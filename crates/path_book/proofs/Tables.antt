@@ -40,24 +40,30 @@ module _ {X : Type 0} where
   in_from_find [] k v e = absurd (cc)
   in_from_find (d ∷ es) k v e = elim (cases_eq k d.0) [
     | inl same ↦
-        let found : cond (eq_by_cmp nat_cmp k d.0) (Some d.1) (fin.find nat_cmp k es) ≡ Some d.1 = ap (λ j. cond (eq_by_cmp nat_cmp k j) (Some d.1) (fin.find nat_cmp k es)) (sym same) ∙ ap (λ b. cond b (Some d.1) (fin.find nat_cmp k es)) (tied_key k) in
+        let found : cond (eq_by_cmp nat_cmp k d.0) (Some d.1) (fin.find nat_cmp k es) ≡ Some d.1 =
+        ap (λ j. cond (eq_by_cmp nat_cmp k j) (Some d.1) (fin.find nat_cmp k es)) (sym same)
+        ∙ ap (λ b. cond b (Some d.1) (fin.find nat_cmp k es)) (tied_key k) in
         let value : d.1 ≡ v = (let two : Some d.1 ≡ Some v = sym found ∙ e in cc) in
         head_in (k, v) d es (λ i. (sym same i, value i))
     | inr apart ↦
-        let later : cond (eq_by_cmp nat_cmp k d.0) (Some d.1) (fin.find nat_cmp k es) ≡ fin.find nat_cmp k es = ap (λ b. cond b (Some d.1) (fin.find nat_cmp k es)) (apart_key d.0 k apart) in
+        let later : cond (eq_by_cmp nat_cmp k d.0) (Some d.1) (fin.find nat_cmp k es) ≡ fin.find nat_cmp k es =
+        ap (λ b. cond b (Some d.1) (fin.find nat_cmp k es)) (apart_key d.0 k apart) in
         tail_in (k, v) d es (in_from_find es k v (sym later ∙ e))
   ]
 
-  find_from_in : (es : List (ℕ × X)) → T (fin.is_sorted nat_cmp es) → (k : ℕ) (v : X) → Contains es (k, v) → fin.find nat_cmp k es ≡ Some v
+  find_from_in : (es : List (ℕ × X)) → T (fin.is_sorted nat_cmp es) → (k : ℕ) (v : X) → Contains es (k, v)
+      → fin.find nat_cmp k es ≡ Some v
   find_from_in [] h k v c = absurd (in_nil (k, v) c)
   find_from_in (d ∷ es) h k v c = elim (in_cons (k, v) d es c) [
     | inl here ↦
         let keys : k ≡ d.0 = ap (λ p. p.0) (sym here) in
-        ap (λ j. cond (eq_by_cmp nat_cmp k j) (Some d.1) (fin.find nat_cmp k es)) (sym keys) ∙ ap (λ b. cond b (Some d.1) (fin.find nat_cmp k es)) (tied_key k) ∙ ap (λ p. Some p.1) here
+        ap (λ j. cond (eq_by_cmp nat_cmp k j) (Some d.1) (fin.find nat_cmp k es)) (sym keys)
+        ∙ ap (λ b. cond b (Some d.1) (fin.find nat_cmp k es)) (tied_key k) ∙ ap (λ p. Some p.1) here
     | inr more ↦
         let less : d.0 < k = above d.0 es (left_holds _ _ h) k v more in
         let apart : k ≢ d.0 = omega arith in
-        ap (λ b. cond b (Some d.1) (fin.find nat_cmp k es)) (apart_key d.0 k apart) ∙ find_from_in es (right_holds _ _ h) k v more
+        ap (λ b. cond b (Some d.1) (fin.find nat_cmp k es)) (apart_key d.0 k apart)
+        ∙ find_from_in es (right_holds _ _ h) k v more
   ]
 
   -- an entry stands in a map exactly where the map finds it
@@ -68,7 +74,8 @@ module _ {X : Type 0} where
   )
 
 -- what stands in a list that is made entry by entry
-pub in_map : {A B : Type 0} (f : A → B) (xs : List A) (y : B) → Contains (map f xs) y → (x : A) × Contains xs x × (f x ≡ y)
+pub in_map : {A B : Type 0} (f : A → B) (xs : List A) (y : B) → Contains (map f xs) y → (x : A) × Contains xs x
+    × (f x ≡ y)
 in_map f [] y c = absurd (in_nil y c)
 in_map f (x ∷ xs) y c = elim (in_cons y (f x) (map f xs) c) [
   | inl here ↦ (x, head_in x x xs refl, here)
@@ -83,8 +90,10 @@ to_map f (z ∷ xs) x c = elim (in_cons x z xs c) [
 ]
 
 -- the keys of the entries behind the first are above its key, and rise
-pub rising_tail : {X : Type 0} (e : ℕ × X) (es : List (ℕ × X)) → T (fin.is_sorted nat_cmp (e ∷ es)) → T (fin.is_sorted nat_cmp es)
+pub rising_tail : {X : Type 0} (e : ℕ × X) (es : List (ℕ × X)) → T (fin.is_sorted nat_cmp (e ∷ es))
+    → T (fin.is_sorted nat_cmp es)
 rising_tail e es h = right_holds _ _ h
 
-pub rising_head : {X : Type 0} (e : ℕ × X) (es : List (ℕ × X)) → T (fin.is_sorted nat_cmp (e ∷ es)) → (d : ℕ × X) → Contains es d → e.0 < d.0
+pub rising_head : {X : Type 0} (e : ℕ × X) (es : List (ℕ × X)) → T (fin.is_sorted nat_cmp (e ∷ es)) → (d : ℕ × X)
+    → Contains es d → e.0 < d.0
 rising_head e es h d c = above e.0 es (left_holds _ _ h) d.0 d.1 c

@@ -9,7 +9,7 @@ use Rattle.apsp_model.specs.Walk.{IsOnceEach}
 use Rattle.apsp_model.specs.Kept.{IsWithEdge}
 use Rattle.apsp_model.specs.Counts.{CountIs}
 use Rattle.apsp_model.specs.Paths.{KeptPath, IsKeptIn, IsHistoricalIn}
-use Rattle.path_arena.specs.Arena.{Path, Arena, arena_code, path_of, vertex_of, IsLive, list_of, left_of, right_of, with_path, without_path, id_cmp, IsArena}
+use Rattle.path_arena.specs.Arena.{Path, Arena, arena_code, path_of, vertex_of, IsLive, list_of, left_of, right_of, with_path, without_path, with_birth, id_cmp, IsArena}
 use Rattle.pair_heaps.specs.Heaps.{HasEnds}
 use Rattle.extension_lists.specs.Known.{Known, known_code, IsKnown, sides_at, no_sides, added, IsDropped}
 
@@ -59,6 +59,14 @@ with_kept b id p =
 -- a kept path becomes historical, and the lists are these then
 abbrev pub with_mark : Book → ℕ → Known → Book
 with_mark b id lists = record { arena = b.arena; marked = set.insert b.marked id; lists = lists }
+
+-- a kept path is historical no more, and the lists are these then
+abbrev pub without_mark : Book → ℕ → Known → Book
+without_mark b id lists = record { arena = b.arena; marked = set.remove b.marked id; lists = lists }
+
+-- a kept path has another birth
+abbrev pub with_new_birth : Book → ℕ → ℕ → Book
+with_new_birth b id birth = record { arena = with_birth b.arena id birth; marked = b.marked; lists = b.lists }
 
 -- a path is kept no more; the lists of its parts lack it, in any order
 pub record IsForgotten (old new : Book) (id : ℕ) : Type 0 where

@@ -4,10 +4,10 @@ ghost use Rattle.std.specs.Prelude.{◌≡◌, ◌≢◌, ℕ, ◌<◌, ◌≤�
 ghost use Rattle.std.specs.FinSet as set;
 ghost use Rattle.apsp_model.specs.Walk.{IsOnceEach, first, last};
 ghost use Rattle.apsp_model.specs.Paths.{IsKeptIn, HasBirthIn};
-ghost use Rattle.extension_lists.specs.Known.{IsStarred};
+ghost use Rattle.extension_lists.specs.Known.{IsStarred, IsUnstarred};
 ghost use Rattle.path_arena.specs.Arena.{path_at, path_of, list_of, IsLive, HasAnEdge, edge_path, joined_path, IsPartOfNone, CanJoin};
 ghost use Rattle.path_book.specs.Through.{AreForgotten, IsVictims};
-ghost use Rattle.path_book.specs.Book.{IsBook, IsMarked, IsOpeningBook, kept_paths, IsNewList, with_kept, with_mark, left_id, right_id, IsForgotten, IsLeastKeptId, KeepsNone, IsPendingLeast, HasNoPendingLeast, HasNonePending, TellsLeastKept, ArePendingLeasts, PathsCount, HistoricalCount};
+ghost use Rattle.path_book.specs.Book.{IsBook, IsMarked, IsOpeningBook, kept_paths, IsNewList, with_kept, with_mark, without_mark, with_new_birth, left_id, right_id, IsForgotten, IsLeastKeptId, KeepsNone, IsPendingLeast, HasNoPendingLeast, HasNonePending, TellsLeastKept, ArePendingLeasts, PathsCount, HistoricalCount};
 
 use crate::admit::{NewPath, admit, admit_known, enter_vertices};
 use crate::dirty::Dirty;
@@ -185,6 +185,36 @@ impl Book {
         Ok(())
     }
 
+    /// Takes the mark from a historical path that is no part of a kept one and not the least of its
+    /// pair.
+    #[inline(always)]
+    pub fn unmark(&mut self, id: PathId)
+        requires edge { HasAnEdge self.old.arena id }
+        requires free { IsPartOfNone self.old.arena id }
+        requires marked { IsMarked self.old id }
+        requires above { (x y : ℕ) → IsLeastKeptId self.old x y id → ⊥ }
+        ensures unmarked { self.new ≡ without_mark self.old id self.new.lists }
+        ensures unstarred { IsUnstarred self.old.lists self.new.lists id (left_id (path_of self.old.arena id))
+            (right_id (path_of self.old.arena id)) }
+        ensures lawful { IsBook self.new }
+    {
+        let (left, right) = (self.arena.left_part(id), self.arena.right_part(id));
+        self.lists.drop_star(id, left, right);
+        self.marks[id.key()] = false;
+        self.historical -= 1;
+        self.pending += 1;
+    }
+
+    /// Gives a kept path with an edge another birth.
+    #[inline(always)]
+    pub fn set_birth(&mut self, id: PathId, birth: u64)
+        requires { HasAnEdge self.old.arena id }
+        ensures born { self.new ≡ with_new_birth self.old id birth }
+        ensures lawful { IsBook self.new }
+    {
+        self.arena.set_birth(id, birth);
+    }
+
     /// Forgets a path that is no part of a kept one.
     #[inline(always)]
     pub fn forget(&mut self, id: PathId)
@@ -194,6 +224,23 @@ impl Book {
         ensures lawful { IsBook self.new }
     {
         self.dirty.note(self.arena.first(id), self.arena.last(id));
+        let (left, right) = (self.arena.left_part(id), self.arena.right_part(id));
+        self.heaps.remove(&self.arena, id);
+        self.lists.drop_id(id, left, right);
+        self.arena.remove(id);
+        let marks = &mut self.marks;
+        uncount(marks, id.key(), &mut self.historical, &mut self.pending);
+    }
+
+    /// Forgets a path that is no part of a kept one and not the least of its pair.
+    #[inline(always)]
+    pub fn forget_higher(&mut self, id: PathId)
+        requires edge { HasAnEdge self.old.arena id }
+        requires free { IsPartOfNone self.old.arena id }
+        requires above { (x y : ℕ) → IsLeastKeptId self.old x y id → ⊥ }
+        ensures forgotten { IsForgotten self.old self.new id }
+        ensures lawful { IsBook self.new }
+    {
         let (left, right) = (self.arena.left_part(id), self.arena.right_part(id));
         self.heaps.remove(&self.arena, id);
         self.lists.drop_id(id, left, right);

@@ -1,9 +1,9 @@
 //! The dirty pairs.
 
-ghost use Rattle.std.specs.Prelude.{◌≡◌, ℕ, ◌<◌, false, true, length, replicate, IfOk, OnOk, OnErr};
+ghost use Rattle.std.specs.Prelude.{◌≡◌, ℕ, ◌<◌, [], false, true, length, replicate, IfOk, OnOk, OnErr};
 ghost use Rattle.apsp_model.specs.Walk.{IsOnceEach};
 ghost use Rattle.pair_heaps.specs.Heaps.{place_of};
-ghost use Rattle.path_book.specs.Dirty.{AreAllOf, AreInside, AreSameDirty, IsNoted, flag_at, is_dirty, with_all, with_flag};
+ghost use Rattle.path_book.specs.Dirty.{AreAllOf, AreInside, AreSameDirty, IsListed, IsNoted, flag_at, is_dirty, with_all, with_flag};
 
 use apsp_model::Memory;
 use std::alloc::{AllocError, Global};
@@ -43,11 +43,15 @@ impl Dirty {
         let Ok(flags) = no_flags(alloc, n as usize * n as usize) else {
             return Err(Memory);
         };
+        // Room for each pair, so that no later call takes memory: of it only what is used is touched.
+        let Ok(pairs) = Vec::with_capacity(alloc, n as usize * n as usize) else {
+            return Err(Memory);
+        };
         Ok(Dirty {
             n,
             all: false,
             flags,
-            pairs: Vec::new(alloc),
+            pairs,
         })
     }
 
@@ -74,14 +78,13 @@ impl Dirty {
         self.all = true;
     }
 
-    /// Makes no pair dirty.
+    /// Makes no pair dirty, in time of those that are listed.
     pub(crate) fn clear(&mut self)
         ensures vertices { self.new.vertices ≡ self.old.vertices }
         ensures none { (x y : ℕ) → x < self.old.vertices → y < self.old.vertices → is_dirty self.new x y ≡ false }
     {
         self.all = false;
-        self.flags.fill(false);
-        self.pairs.clear();
+        take_down(self.n, &mut self.flags, &mut self.pairs);
     }
 
     /// Lists the dirty pairs one by one, also where all are.
@@ -145,6 +148,17 @@ impl Dirty {
         ensures inside { result < length self.now.flags }
     {
         x as usize * self.n as usize + y as usize
+    }
+}
+
+/// Takes the flags of the listed pairs down, and the pairs off the list.
+fn take_down(n: u32, flags: &mut [bool], pairs: &mut Vec<(u32, u32)>)
+    requires listed { IsListed n flags.old pairs.old.items }
+    ensures listed { IsListed n flags.new pairs.new.items }
+    ensures empty { pairs.new.items ≡ [] }
+{
+    'pairs: while let Some((x, y)) = pairs.pop() {
+        flags[x as usize * n as usize + y as usize] = false;
     }
 }
 

@@ -13,12 +13,14 @@ pub record IsFreshIn (c : Classes) (b : Arena) (id : ℕ) : Type 0 where
   pub live : IsLive b id
   pub fresh : (r : Rank) → IsHeldWithRank c r id → ⊥
 
-pub fresh_in : (c : Classes) (a b : Arena) (id : ℕ) (p : Path) → ClassesFit c a → path_at a id ≡ None → b ≡ with_path a id p → IsFreshIn c b id
+pub fresh_in : (c : Classes) (a b : Arena) (id : ℕ) (p : Path) → ClassesFit c a → path_at a id ≡ None
+    → b ≡ with_path a id p → IsFreshIn c b id
 fresh_in c a b id p fits gone added = subst (λ (m : Arena). IsFreshIn c m id) (sym added) (record {
   fits = fits_agree c a (with_path a id p) fits (record {
     vertices = refl;
     live = λ w q held. subst IsSome (sym (kept w q held)) (fits.live w q held);
-    ranks = λ w q held. ap (λ (o : Option Path). let r : Rank = record { weight = (unwrap_or o no_path).weight; hops = hops_of (unwrap_or o no_path).list } in r) (kept w q held);
+    ranks = λ w q held. ap (λ (o : Option Path). let r : Rank = record
+        { weight = (unwrap_or o no_path).weight; hops = hops_of (unwrap_or o no_path).list } in r) (kept w q held);
   });
   live = ap is_some (get_put a.paths id p);
   fresh = fresh;

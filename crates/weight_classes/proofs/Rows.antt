@@ -29,7 +29,8 @@ numbers_less : (x u : ℕ) → x < u → nat_cmp x u ≡ Less
 numbers_less x u less = grind (arith, nat_tests)
 
 -- a lower place comes first
-pub pair_before : (n x y u v : ℕ) → y < n → v < n → x * n + y < u * n + v → ordering_then (nat_cmp x u) (nat_cmp y v) ≡ Less
+pub pair_before : (n x y u v : ℕ) → y < n → v < n → x * n + y < u * n + v
+    → ordering_then (nat_cmp x u) (nat_cmp y v) ≡ Less
 pair_before n x y u v y_in v_in below = elim (cases_lt x u) [
   | inl less ↦ ap (λ o. ordering_then o (nat_cmp y v)) (numbers_less x u less)
   | inr upto ↦ elim (cases_lt u x) [
@@ -37,7 +38,8 @@ pair_before n x y u v y_in v_in below = elim (cases_lt x u) [
     | inr least ↦
         let rows : x ≡ u = omega arith in
         let columns : y < v = omega (arith, ap (λ w. w * n) rows) in
-        ap (λ w. ordering_then (nat_cmp w u) (nat_cmp y v)) rows ∙ ap (λ o. ordering_then o (nat_cmp y v)) (tied_itself nat_cmp_total u) ∙ numbers_less y v columns
+        ap (λ w. ordering_then (nat_cmp w u) (nat_cmp y v)) rows
+        ∙ ap (λ o. ordering_then o (nat_cmp y v)) (tied_itself nat_cmp_total u) ∙ numbers_less y v columns
   ]
 ]
 
@@ -53,7 +55,13 @@ first_in (z ∷ p) some = (0, omega arith, refl)
 last_in : (p : List ℕ) → 0 < length p → Contains p (unwrap_or (last p) 0)
 last_in [] some = absurd (omega arith)
 last_in (z ∷ []) some = (0, omega arith, refl)
-last_in (z ∷ u ∷ p) some = let c : Contains (u ∷ p) (unwrap_or (last (u ∷ p)) 0) = last_in (u ∷ p) (omega arith) in (c.0 + 1, let l : c.0 < length (u ∷ p) = c.1 in omega arith, ap (λ k. get_or (z ∷ u ∷ p) k (unwrap_or (last (u ∷ p)) 0)) (add-one c.0) ∙ c.2)
+last_in (z ∷ u ∷ p) some =
+    let c : Contains (u ∷ p) (unwrap_or (last (u ∷ p)) 0) = last_in (u ∷ p) (omega arith) in (
+      c.0 + 1,
+      let l : c.0 < length (u ∷ p) = c.1 in
+          omega arith,
+      ap (λ k. get_or (z ∷ u ∷ p) k (unwrap_or (last (u ∷ p)) 0)) (add-one c.0) ∙ c.2,
+    )
 
 -- a part of a live path is a vertex
 vertex_inside : (a : Arena) (id v : ℕ) → IsArena a → IsLive a id → Contains (list_of a id) v → v < a.vertices
@@ -67,7 +75,8 @@ some_by_first : (p : List ℕ) (x : ℕ) → first p ≡ Some x → 0 < length p
 some_by_first [] x e = cc
 some_by_first (z ∷ p) x e = omega arith
 
-pub ends_of_live : (a : Arena) (id x : ℕ) → IsArena a → IsLive a id → first (list_of a id) ≡ Some x → EndsAreVertices a id
+pub ends_of_live : (a : Arena) (id x : ℕ) → IsArena a → IsLive a id → first (list_of a id) ≡ Some x
+    → EndsAreVertices a id
 ends_of_live a id x lawful live e = (
   vertex_inside a id (first_of a id) lawful live (first_in (list_of a id) (some_by_first (list_of a id) x e)),
   vertex_inside a id (last_of a id) lawful live (last_in (list_of a id) (some_by_first (list_of a id) x e)),
@@ -77,17 +86,22 @@ pub place_inside : (a : Arena) (id : ℕ) → EndsAreVertices a id → pair_plac
 place_inside a id ends = place_below a.vertices (first_of a id) (last_of a id) ends.0 ends.1
 
 -- ids of one place have one pair
-pub same_pair : (a : Arena) (p q : ℕ) → EndsAreVertices a p → EndsAreVertices a q → pair_place a p ≡ pair_place a q → SamePair a p q
-same_pair a p q ends_p ends_q same = one_place a.vertices (first_of a p) (last_of a p) (first_of a q) (last_of a q) ends_p.1 ends_q.1 same
+pub same_pair : (a : Arena) (p q : ℕ) → EndsAreVertices a p → EndsAreVertices a q → pair_place a p ≡ pair_place a q
+    → SamePair a p q
+same_pair a p q ends_p ends_q same =
+    one_place a.vertices (first_of a p) (last_of a p) (first_of a q) (last_of a q) ends_p.1 ends_q.1 same
 
-pub in_order : (a : Arena) (ids : List ℕ) → ((q : ℕ) → Contains ids q → EndsAreVertices a q) → AreRising a ids → InOrder a ids
+pub in_order : (a : Arena) (ids : List ℕ) → ((q : ℕ) → Contains ids q → EndsAreVertices a q) → AreRising a ids
+    → InOrder a ids
 in_order a [] ends h = tt
 in_order a (id ∷ ids) ends h = (
-  λ q c. pair_before a.vertices (first_of a id) (last_of a id) (first_of a q) (last_of a q) (ends id (0, omega arith, refl)).1 (ends q (Contains-append_right (id ∷ []) ids q c)).1 (h.0 q c),
+  λ q c. pair_before a.vertices (first_of a id) (last_of a id) (first_of a q) (last_of a q)
+      (ends id (0, omega arith, refl)).1 (ends q (Contains-append_right (id ∷ []) ids q c)).1 (h.0 q c),
   in_order a ids (λ q c. ends q (Contains-append_right (id ∷ []) ids q c)) h.1,
 )
 
 -- ---- the key of an id
 
-pub key_is : (a : Arena) (id x y : ℕ) → first (list_of a id) ≡ Some x → last (list_of a id) ≡ Some y → (first_of a id ≡ x) × (last_of a id ≡ y)
+pub key_is : (a : Arena) (id x y : ℕ) → first (list_of a id) ≡ Some x → last (list_of a id) ≡ Some y
+    → (first_of a id ≡ x) × (last_of a id ≡ y)
 key_is a id x y e f = (ap (λ o. unwrap_or o 0) e, ap (λ o. unwrap_or o 0) f)

@@ -14,4 +14,5 @@ pub returns-clause-birth : goal.returns-clause-birth
 returns-clause-birth c = (births_are 3 false way_closed (0 ∷ 2 ∷ []) 1).1 (refl, refl)
 
 pub returns-clause-counts : goal.returns-clause-counts
-returns-clause-counts c = counts_are 3 false (1, []) ((1, ((1, 2), 3) ∷ ((0, 1), 4) ∷ []) ∷ (0, ((0, 1), 4) ∷ ((0, 2), 9) ∷ []) ∷ []) refl
+returns-clause-counts c =
+    counts_are 3 false (1, []) ((1, ((1, 2), 3) ∷ ((0, 1), 4) ∷ []) ∷ (0, ((0, 1), 4) ∷ ((0, 2), 9) ∷ []) ∷ []) refl

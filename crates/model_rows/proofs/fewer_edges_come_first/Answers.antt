@@ -14,4 +14,6 @@ pub returns-clause-birth : goal.returns-clause-birth
 returns-clause-birth c = (births_are 4 false shortcut (0 ∷ 1 ∷ 3 ∷ []) 3).1 (refl, refl)
 
 pub returns-clause-counts : goal.returns-clause-counts
-returns-clause-counts c = counts_are 4 false (0, ((0, 1), 1) ∷ ((0, 2), 2) ∷ ((0, 3), 3) ∷ []) ((3, ((1, 3), 2) ∷ ((2, 3), 1) ∷ []) ∷ (0, ((0, 1), 1) ∷ ((0, 2), 2) ∷ []) ∷ []) refl
+returns-clause-counts c =
+    counts_are 4 false (0, ((0, 1), 1) ∷ ((0, 2), 2) ∷ ((0, 3), 3) ∷ [])
+    ((3, ((1, 3), 2) ∷ ((2, 3), 1) ∷ []) ∷ (0, ((0, 1), 1) ∷ ((0, 2), 2) ∷ []) ∷ []) refl

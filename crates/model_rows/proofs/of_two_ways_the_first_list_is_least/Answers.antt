@@ -19,4 +19,5 @@ pub returns-clause-other : goal.returns-clause-other
 returns-clause-other c = λ h. true≢false (sym ((historical_are 4 false diamond (0 ∷ 2 ∷ 3 ∷ [])).0 h))
 
 pub returns-clause-counts : goal.returns-clause-counts
-returns-clause-counts c = counts_are 4 false (3, ((1, 3), 2) ∷ ((2, 3), 1) ∷ []) ((0, ((0, 1), 1) ∷ ((0, 2), 2) ∷ []) ∷ []) refl
+returns-clause-counts c =
+    counts_are 4 false (3, ((1, 3), 2) ∷ ((2, 3), 1) ∷ []) ((0, ((0, 1), 1) ∷ ((0, 2), 2) ∷ []) ∷ []) refl

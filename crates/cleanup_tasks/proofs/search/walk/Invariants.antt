@@ -7,4 +7,6 @@ abbrev pub invariant-levels : goal.invariant-levels
 invariant-levels g l = HasWalked l.book l.v l.level.starting.items l.level.passing.items l.ids.items
 
 abbrev pub decreases-levels : goal.decreases-levels
-decreases-levels g l = length (fin.entries l.book.arena.paths) + (length l.level.starting.items + length l.level.passing.items) - length l.ids.items
+decreases-levels g l =
+    length (fin.entries l.book.arena.paths) + (length l.level.starting.items + length l.level.passing.items) - length
+    l.ids.items

@@ -6,7 +6,11 @@ use Rattle.cleanup_tasks.proofs.tasks.push_at.Goals as goal
 
 pub returns-then-at-levels : goal.returns-then-at-levels
 returns-then-at-levels c =
-    subst (λ xs. OnOk c.push_level.result (c.push_level.new.ids.items ≡ c.args.ids.now.items ++ xs)) (sym (level_is c.args.levels.now c.args.at c.index-levels-at.result c.if-at-levels.true ∙ ap paths_of_level (sym c.index-levels-at.is))) c.push_level.ensures
+    subst (λ xs. OnOk c.push_level.result (c.push_level.new.ids.items ≡ c.args.ids.now.items ++ xs))
+    (sym (level_is c.args.levels.now c.args.at c.index-levels-at.result c.if-at-levels.true
+    ∙ ap paths_of_level (sym c.index-levels-at.is))) c.push_level.ensures
 
 pub returns : goal.returns
-returns c = sym (ap (λ xs. c.args.ids.now.items ++ xs) (level_none c.args.levels.now c.args.at (omega (arith, c.if-at-levels.false))) ∙ append-nil c.args.ids.now.items)
+returns c =
+    sym (ap (λ xs. c.args.ids.now.items ++ xs)
+    (level_none c.args.levels.now c.args.at (omega (arith, c.if-at-levels.false))) ∙ append-nil c.args.ids.now.items)

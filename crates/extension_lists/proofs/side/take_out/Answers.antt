@@ -13,17 +13,23 @@ placed xs ys id p is here =
     (slice_get_within xs p id there, get_or_from_slice_get xs p id id there)
 
 pub take_at-requires-clause-place : goal.take_at-requires-clause-place
-take_at-requires-clause-place c = (placed (ids_at c.args.pool.now c.args.list) c.ids.result.now c.args.id c.in-Some.place c.ids.ensures.lent c.in-Some.ensures).0
+take_at-requires-clause-place c =
+    (placed (ids_at c.args.pool.now c.args.list) c.ids.result.now c.args.id c.in-Some.place c.ids.ensures.lent
+    c.in-Some.ensures).0
 
 pub returns-in-Some-clause-without : goal.returns-in-Some-clause-without
 returns-in-Some-clause-without c =
-    let at = placed (ids_at c.args.pool.now c.args.list) c.ids.result.now c.args.id c.in-Some.place c.ids.ensures.lent c.in-Some.ensures in
-    (taken_out c.args.id (list_at c.args.pool.now c.args.list) (list_at c.take_at.new.self c.args.list) c.in-Some.place c.take_at.ensures.taken c.take_at.ensures.most at.0 at.1 c.requires.once).0
+    let at = placed (ids_at c.args.pool.now c.args.list) c.ids.result.now c.args.id c.in-Some.place c.ids.ensures.lent
+    c.in-Some.ensures in
+    (taken_out c.args.id (list_at c.args.pool.now c.args.list) (list_at c.take_at.new.self c.args.list) c.in-Some.place
+    c.take_at.ensures.taken c.take_at.ensures.most at.0 at.1 c.requires.once).0
 
 pub returns-in-Some-clause-stars : goal.returns-in-Some-clause-stars
 returns-in-Some-clause-stars c =
-    let at = placed (ids_at c.args.pool.now c.args.list) c.ids.result.now c.args.id c.in-Some.place c.ids.ensures.lent c.in-Some.ensures in
-    (taken_out c.args.id (list_at c.args.pool.now c.args.list) (list_at c.take_at.new.self c.args.list) c.in-Some.place c.take_at.ensures.taken c.take_at.ensures.most at.0 at.1 c.requires.once).1
+    let at = placed (ids_at c.args.pool.now c.args.list) c.ids.result.now c.args.id c.in-Some.place c.ids.ensures.lent
+    c.in-Some.ensures in
+    (taken_out c.args.id (list_at c.args.pool.now c.args.list) (list_at c.take_at.new.self c.args.list) c.in-Some.place
+    c.take_at.ensures.taken c.take_at.ensures.most at.0 at.1 c.requires.once).1
 
 pub returns-in_default-clause-stars : goal.returns-in_default-clause-stars
 returns-in_default-clause-stars c =
@@ -31,5 +37,6 @@ returns-in_default-clause-stars c =
     let m = marked_at c.args.pool.now c.args.list in
     let most : m ≤ length xs = omega (arith, c.ids.ensures.marked, ap length c.ids.ensures.lent) in
     without_absent c.args.id (stars_at c.args.pool.now c.args.list)
-    (absent_front m xs c.args.id most (subst (λ (zs : List ℕ). Contains zs c.args.id → ⊥) c.ids.ensures.lent c.in_default.ensures))
+    (absent_front m xs c.args.id most (subst (λ (zs : List ℕ). Contains zs c.args.id → ⊥) c.ids.ensures.lent
+    c.in_default.ensures))
     (once_front_of m xs most c.requires.once)

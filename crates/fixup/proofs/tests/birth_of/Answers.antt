@@ -12,9 +12,12 @@ pub list-preserved : goal.list-preserved
 list-preserved c =
     let x : ℕ = get_or c.args.list.now c.list.v-index 0 in
     subst (All (λ v. v < c.args.n)) (sym (take_more c.args.list.now c.list.v-index 0 c.list-test.true))
-    (All-append (λ v. v < c.args.n) (take c.list.v-index c.args.list.now) (x ∷ []) c.list.invariant (one x c.args.n (omega (arith, c.if-v-n.false))))
+    (All-append (λ v. v < c.args.n) (take c.list.v-index c.args.list.now) (x ∷ []) c.list.invariant
+    (one x c.args.n (omega (arith, c.if-v-n.false))))
 
 pub birth_of-requires-clause-inside : goal.birth_of-requires-clause-inside
 birth_of-requires-clause-inside c =
-    let inside : All (λ v. v < c.args.n) c.args.list.now = subst (All (λ v. v < c.args.n)) (take_all c.list.v-index c.args.list.now (omega (arith, c.list-test.false))) c.list.invariant in
+    let inside : All (λ v. v < c.args.n) c.args.list.now =
+    subst (All (λ v. v < c.args.n)) (take_all c.list.v-index c.args.list.now (omega (arith, c.list-test.false)))
+    c.list.invariant in
     λ k d l. subst (λ n. slice_index_or c.args.list.now k d < n) (sym c.requires.vertices) (inside k d l)

@@ -13,4 +13,8 @@ others-preserved c =
     c.others.invariant
 
 pub returns : goal.returns
-returns c = record { none = λ _. none_there c.args.graph.now c.args.v c.vertices-u-end.ensures.graph (λ u l. c.others.invariant u (omega (arith, l, c.others-test.false, c.vertices-u-end.ensures.vertices))) }
+returns c =
+    record {
+      none = λ _. none_there c.args.graph.now c.args.v c.vertices-u-end.ensures.graph
+          (λ u l. c.others.invariant u (omega (arith, l, c.others-test.false, c.vertices-u-end.ensures.vertices)));
+    }

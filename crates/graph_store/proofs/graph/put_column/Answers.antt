@@ -12,4 +12,5 @@ loop-u-preserved c = column_more _ _ _ _ _ _ c.requires.inside c.loop-u-test.tru
 pub returns : goal.returns
 returns c =
     let end : c.loop-u.u ≡ length c.args.column.now = omega arith in
-    subst (λ k. HasColumn (length c.args.column.now) c.args.number k c.args.column.now c.args.cells.now c.loop-u.cells) end c.loop-u.invariant
+    subst (λ k. HasColumn (length c.args.column.now) c.args.number k c.args.column.now c.args.cells.now c.loop-u.cells)
+    end c.loop-u.invariant

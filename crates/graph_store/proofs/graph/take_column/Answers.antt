@@ -12,4 +12,5 @@ loop-u-preserved c = is_column_more _ _ _ _ _ c.loop-u-test.true c.loop-u.invari
 pub returns : goal.returns
 returns c =
     let end : c.loop-u.u ≡ length c.args.column.now = omega arith in
-    subst (λ k. IsColumn (length c.args.column.now) c.args.number k c.args.cells.now c.loop-u.column) end c.loop-u.invariant
+    subst (λ k. IsColumn (length c.args.column.now) c.args.number k c.args.cells.now c.loop-u.column) end
+    c.loop-u.invariant

@@ -8,10 +8,14 @@ pub returns-clause-moved : goal.returns-clause-moved
 returns-clause-moved c =
     let xs = c.args.entries.now in
     let k = c.args.len in
-    subst (λ (ys : List ℕ). IsPermutation (take k xs) (c.args.id ∷ ys)) (sym (front_of xs c.take_out.new.entries (drop k xs) k c.requires.inside c.take_out.auto.entries)) c.take_out.ensures.moved
+    subst (λ (ys : List ℕ). IsPermutation (take k xs) (c.args.id ∷ ys))
+    (sym (front_of xs c.take_out.new.entries (drop k xs) k c.requires.inside c.take_out.auto.entries))
+    c.take_out.ensures.moved
 
 pub returns-clause-heap : goal.returns-clause-heap
 returns-clause-heap c =
     let xs = c.args.entries.now in
     let k = c.args.len in
-    subst (λ (ys : List ℕ). IsHeap c.args.arena.now ys) (sym (front_of xs c.take_out.new.entries (drop k xs) k c.requires.inside c.take_out.auto.entries)) c.take_out.ensures.heap
+    subst (λ (ys : List ℕ). IsHeap c.args.arena.now ys)
+    (sym (front_of xs c.take_out.new.entries (drop k xs) k c.requires.inside c.take_out.auto.entries))
+    c.take_out.ensures.heap

@@ -6,11 +6,13 @@ use Rattle.pair_heaps.proofs.Sifted.{risen, risen_done, risen_top, parent_child,
 use Rattle.pair_heaps.proofs.sift.rise.Goals as goal
 
 pub is_below-requires-clause-live : goal.is_below-requires-clause-live
-is_below-requires-clause-live c = still_live c.args.arena.now c.args.ids.now c.rising.ids c.rising.invariant.moved c.requires.live
+is_below-requires-clause-live c =
+    still_live c.args.arena.now c.args.ids.now c.rising.ids c.rising.invariant.moved c.requires.live
 
 pub returns-then-not-is_below-clause-heap : goal.returns-then-not-is_below-clause-heap
 returns-then-not-is_below-clause-heap c =
-    risen_done c.args.arena.now c.rising.ids ((c.rising.hole - 1) / 2) c.rising.hole (parent_child c.rising.hole c.rising-test.true)
+    risen_done c.args.arena.now c.rising.ids ((c.rising.hole - 1) / 2) c.rising.hole
+    (parent_child c.rising.hole c.rising-test.true)
     (c.is_below.ensures.no c.if-not-is_below.true) c.rising.invariant.rising
 
 pub rising-preserved : goal.rising-preserved
@@ -24,8 +26,10 @@ rising-preserved c =
       moved = IsPermutation-trans c.args.ids.now xs c.swap.new.self c.rising.invariant.moved c.swap.ensures.permutation;
       place = omega (arith, up_in, ap length c.swap.ensures.after, length-swap xs up c.rising.hole);
       rising = subst (λ (ys : List ℕ). IsRising a ys up) (sym c.swap.ensures.after)
-          (risen a xs up c.rising.hole child c.rising.invariant.place (c.is_below.ensures.yes c.if-not-is_below.false) c.rising.invariant.rising);
+          (risen a xs up c.rising.hole child c.rising.invariant.place (c.is_below.ensures.yes c.if-not-is_below.false)
+          c.rising.invariant.rising);
     }
 
 pub returns-clause-heap : goal.returns-clause-heap
-returns-clause-heap c = risen_top c.args.arena.now c.rising.ids c.rising.hole (omega (arith, c.rising-test.false)) c.rising.invariant.rising
+returns-clause-heap c =
+    risen_top c.args.arena.now c.rising.ids c.rising.hole (omega (arith, c.rising-test.false)) c.rising.invariant.rising

@@ -3,7 +3,9 @@ use Rattle.path_arena.proofs.Paths.{live_added, live_still, edge_added, edges_ca
 use Rattle.path_arena.proofs.tests.joined_edges.Goals as goal
 
 pub join-requires : goal.join-requires
-join-requires c = edges_can_join _ _ _ _ _ 0 1 2 _ _ _ _ c.in_ok-left.ensures.fresh c.in_ok-left.ensures.added c.in_ok-right.ensures.fresh c.in_ok-right.ensures.added (omega arith)
+join-requires c =
+    edges_can_join _ _ _ _ _ 0 1 2 _ _ _ _ c.in_ok-left.ensures.fresh c.in_ok-left.ensures.added
+    c.in_ok-right.ensures.fresh c.in_ok-right.ensures.added (omega arith)
 
 pub returns-clause-left : goal.returns-clause-left
 returns-clause-left c =

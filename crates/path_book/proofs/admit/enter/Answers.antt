@@ -8,11 +8,16 @@ pub add-requires : goal.add-requires
 add-requires c =
     let m = c.args.lists.now in
     let e = c.in_ok-enter.ensures.ok in
-    let gone : StandsNowhere c.enter.new.self c.args.id = subst (λ k. StandsNowhere k c.args.id) (sym e) (stands_nowhere m c.args.id c.requires.new c.requires.nowhere) in
+    let gone : StandsNowhere c.enter.new.self c.args.id =
+    subst (λ k. StandsNowhere k c.args.id) (sym e) (stands_nowhere m c.args.id c.requires.new c.requires.nowhere) in
     record {
       known = subst (λ k. IsKnown k c.args.id) (sym e) (entered_itself m c.args.id c.requires.new);
-      known_l = subst (λ k. IsKnown k c.args.left) (sym e) (entered_still m c.args.id c.requires.new c.args.left c.requires.left_known);
-      known_r = subst (λ k. IsKnown k c.args.right) (sym e) (entered_still m c.args.id c.requires.new c.args.right c.requires.right_known);
+      known_l =
+          subst (λ k. IsKnown k c.args.left) (sym e)
+          (entered_still m c.args.id c.requires.new c.args.left c.requires.left_known);
+      known_r =
+          subst (λ k. IsKnown k c.args.right) (sym e)
+          (entered_still m c.args.id c.requires.new c.args.right c.requires.right_known);
       new_right = gone.right c.args.left;
       new_left = gone.left c.args.right;
     }
@@ -23,10 +28,16 @@ drop_id-requires c =
     let e = c.in-Err.ensures.err ∙ c.in_ok-enter.ensures.ok in
     record {
       known = subst (λ k. IsKnown k c.args.id) (sym e) (entered_itself m c.args.id c.requires.new);
-      known_l = subst (λ k. IsKnown k c.args.left) (sym e) (entered_still m c.args.id c.requires.new c.args.left c.requires.left_known);
-      known_r = subst (λ k. IsKnown k c.args.right) (sym e) (entered_still m c.args.id c.requires.new c.args.right c.requires.right_known);
+      known_l =
+          subst (λ k. IsKnown k c.args.left) (sym e)
+          (entered_still m c.args.id c.requires.new c.args.left c.requires.left_known);
+      known_r =
+          subst (λ k. IsKnown k c.args.right) (sym e)
+          (entered_still m c.args.id c.requires.new c.args.right c.requires.right_known);
       empty = subst (λ k. sides_at k c.args.id ≡ no_sides) (sym e) (sides_of_new m c.args.id c.requires.new);
-      nowhere_else = subst (λ k. StandsOnlyAt k c.args.id c.args.left c.args.right) (sym e) (stands_only m c.args.id c.requires.new c.args.left c.args.right c.requires.nowhere);
+      nowhere_else =
+          subst (λ k. StandsOnlyAt k c.args.id c.args.left c.args.right) (sym e)
+          (stands_only m c.args.id c.requires.new c.args.left c.args.right c.requires.nowhere);
     }
 
 pub returns-in-Err-clause-same : goal.returns-in-Err-clause-same

@@ -11,4 +11,6 @@ returns-clause-indexed c =
     let bs : List Bucket = c.args.buckets.now.items in
     let b : Bucket = record { weight = c.args.weight; hops = c.args.hops; next = c.index.result.now; ids = Empty } in
     let grown : c.push.new.self.items ≡ bs ++ b ∷ [] = search rules in
-    bucket_indexed heads bs c.push.new.self.items b c.cell-cell.result c.len-len.result c.requires.indexed (search rules) c.if-len.false (search rules) (search rules) (search rules) (get_or_read heads c.cell-cell.result c.index.result.now (search rules) c.index.ensures 0) grown
+    bucket_indexed heads bs c.push.new.self.items b c.cell-cell.result c.len-len.result c.requires.indexed
+    (search rules) c.if-len.false (search rules) (search rules) (search rules)
+    (get_or_read heads c.cell-cell.result c.index.result.now (search rules) c.index.ensures 0) grown

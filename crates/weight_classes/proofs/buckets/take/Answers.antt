@@ -23,10 +23,13 @@ pub returns-clause-idss : goal.returns-clause-idss
 returns-clause-idss c =
     let b : Bucket = c.index_mut.result.now in
     let d : Bucket = record { weight = b.weight; hops = b.hops; next = b.next; ids = c.replace.new.dest } in
-    idss_now c.args.buckets.now.items c.args.at b d c.requires c.index_mut.ensures.value ∙ ap (slice_set (idss_in c.args.buckets.now.items) c.args.at) (ap ids_in c.replace.ensures.after)
+    idss_now c.args.buckets.now.items c.args.at b d c.requires c.index_mut.ensures.value
+    ∙ ap (slice_set (idss_in c.args.buckets.now.items) c.args.at) (ap ids_in c.replace.ensures.after)
 
 pub returns-clause-need : goal.returns-clause-need
-returns-clause-need c = ap need_of c.replace.ensures.value ∙ sym (need_is c.args.buckets.now.items c.args.at c.index_mut.result.now c.requires c.index_mut.ensures.value)
+returns-clause-need c =
+    ap need_of c.replace.ensures.value ∙ sym
+    (need_is c.args.buckets.now.items c.args.at c.index_mut.result.now c.requires c.index_mut.ensures.value)
 
 pub returns-clause-room : goal.returns-clause-room
 returns-clause-room c =

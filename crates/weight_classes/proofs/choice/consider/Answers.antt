@@ -12,13 +12,16 @@ returns-then-eq-clause-considered c =
     let end = c.len-end.result - 1 in
     let last = c.index-deref-end.result in
     inr (
-      sym (get_or_read c.args.won.now.items c.args.key.place c.index.result.now (omega (arith, c.requires.inside, c.args.won.now.ok.0)) c.index.ensures false) ∙ c.if-not-index.false,
+      sym (get_or_read c.args.won.now.items c.args.key.place c.index.result.now
+          (omega (arith, c.requires.inside, c.args.won.now.ok.0)) c.index.ensures false) ∙ c.if-not-index.false,
       refl,
       refl,
       inr (
         c.if-last-key.true,
         subst (GivesWay c.args.arena.now c.args.key.id ids)
-            (sym (items-with_items c.args.winners.now (set lent end c.args.key.id) (length-set lent end c.args.key.id ∙ ap length c.deref_mut.ensures.value) ∙ ap (λ (xs : List ℕ). set xs end c.args.key.id) c.deref_mut.ensures.value))
+            (sym (items-with_items c.args.winners.now (set lent end c.args.key.id)
+            (length-set lent end c.args.key.id ∙ ap length c.deref_mut.ensures.value)
+            ∙ ap (λ (xs : List ℕ). set xs end c.args.key.id) c.deref_mut.ensures.value))
             (gives_way_at c.args.arena.now c.args.key.id ids end last (c.requires.some c.if-last-key.true)
             (subst (λ (xs : List ℕ). last ≡ get_or xs end last) c.deref.ensures c.index-deref-end.is)
             (omega (arith, c.len-end.ensures.value, c.requires.some c.if-last-key.true))

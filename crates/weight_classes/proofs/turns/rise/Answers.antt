@@ -17,9 +17,13 @@ rising-preserved c =
     let apart : up ≢ hole = λ e. omega arith in
     record {
       place = omega (arith, up_in, length-set ts hole (get_or ts up no_turn));
-      moved = IsPermutation-trans c.args.turns.now (slice_set ts hole t) (slice_set (slice_set ts hole (get_or ts up no_turn)) up t) c.rising.invariant.moved (moved_same ts t hole up c.rising.invariant.place up_in apart);
-      rises = subst (λ n. MayRise (key_at (slice_set (slice_set ts hole (get_or ts up no_turn)) up t)) n up) (sym (length-set ts hole (get_or ts up no_turn)))
-          (rises_on ts t hole up c.rising.invariant.place up_in apart c.in-Some.ensures.0 c.in-Some.ensures.1 c.rising.invariant.rises);
+      moved = IsPermutation-trans c.args.turns.now (slice_set ts hole t)
+          (slice_set (slice_set ts hole (get_or ts up no_turn)) up t) c.rising.invariant.moved
+          (moved_same ts t hole up c.rising.invariant.place up_in apart);
+      rises = subst (λ n. MayRise (key_at (slice_set (slice_set ts hole (get_or ts up no_turn)) up t)) n up)
+          (sym (length-set ts hole (get_or ts up no_turn)))
+          (rises_on ts t hole up c.rising.invariant.place up_in apart c.in-Some.ensures.0 c.in-Some.ensures.1
+          c.rising.invariant.rises);
     }
 
 pub returns-clause-order : goal.returns-clause-order

@@ -26,10 +26,18 @@ sinking-preserved c =
     record {
       place = omega (arith, c.in-Some.ensures.1, length-set ts hole (get_or ts child no_turn));
       right = refl;
-      moved = IsPermutation-trans (slice_set c.args.turns.now 0 t) (slice_set ts hole t) (slice_set (slice_set ts hole (get_or ts child no_turn)) child t) c.sinking.invariant.moved (moved_same ts t hole child c.sinking.invariant.place c.in-Some.ensures.1 apart);
-      sinks = subst (λ n. MaySink (key_at (slice_set (slice_set ts hole (get_or ts child no_turn)) child t)) n child) (sym (length-set ts hole (get_or ts child no_turn)))
-          (sinks_on ts t hole child c.sinking.invariant.place c.in-Some.ensures.1 apart below c.in-Some.ensures.2 (λ i of. c.in-Some.ensures.3 i (beside i hole c.sinking.right c.sinking.invariant.right of)) c.sinking.invariant.sinks);
+      moved = IsPermutation-trans (slice_set c.args.turns.now 0 t) (slice_set ts hole t)
+          (slice_set (slice_set ts hole (get_or ts child no_turn)) child t) c.sinking.invariant.moved
+          (moved_same ts t hole child c.sinking.invariant.place c.in-Some.ensures.1 apart);
+      sinks = subst (λ n. MaySink (key_at (slice_set (slice_set ts hole (get_or ts child no_turn)) child t)) n child)
+          (sym (length-set ts hole (get_or ts child no_turn)))
+          (sinks_on ts t hole child c.sinking.invariant.place c.in-Some.ensures.1 apart below c.in-Some.ensures.2
+          (λ i of. c.in-Some.ensures.3 i (beside i hole c.sinking.right c.sinking.invariant.right of))
+          c.sinking.invariant.sinks);
     }
 
 pub returns-clause-order : goal.returns-clause-order
-returns-clause-order c = sinks_end c.sinking.turns c.args.turn c.sinking.hole c.sinking.invariant.place (λ i of. c.in_default.ensures i (beside i c.sinking.hole c.sinking.right c.sinking.invariant.right of)) c.sinking.invariant.sinks
+returns-clause-order c =
+    sinks_end c.sinking.turns c.args.turn c.sinking.hole c.sinking.invariant.place
+    (λ i of. c.in_default.ensures i (beside i c.sinking.hole c.sinking.right c.sinking.invariant.right of))
+    c.sinking.invariant.sinks

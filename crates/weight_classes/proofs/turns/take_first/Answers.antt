@@ -10,7 +10,8 @@ use Rattle.weight_classes.proofs.turns.take_first.Goals as goal
 pub returns-then-is_empty-clause-some : goal.returns-then-is_empty-clause-some
 returns-then-is_empty-clause-some c =
     let rest : List Turn = c.pop.new.self.items in
-    subst (λ (ts : List Turn). IsPermutation ts (c.in_ok-last.last ∷ rest)) (sym c.in_ok-last.ensures.items) (IsPermutation-append_comm rest (c.in_ok-last.last ∷ []))
+    subst (λ (ts : List Turn). IsPermutation ts (c.in_ok-last.last ∷ rest)) (sym c.in_ok-last.ensures.items)
+    (IsPermutation-append_comm rest (c.in_ok-last.last ∷ []))
 
 pub returns-then-is_empty-clause-first : goal.returns-then-is_empty-clause-first
 returns-then-is_empty-clause-first c =
@@ -23,9 +24,14 @@ returns-clause-some c =
     let last : Turn = c.in_ok-last.last in
     let first : Turn = c.index-first.result.now in
     let some : 0 < length rest = search rules in
-    let moved : IsPermutation (slice_set rest 0 last) c.sink.new.turns = subst (λ (ts : List Turn). IsPermutation (slice_set ts 0 last) c.sink.new.turns) c.as_mut_slice.ensures.value c.sink.ensures.moved in
-    subst (λ (ts : List Turn). IsPermutation ts (first ∷ take c.pop.new.self.len (c.sink.new.turns ++ drop (length c.sink.new.turns) rest))) (sym c.in_ok-last.ensures.items)
-    (subst (λ (ts : List Turn). IsPermutation (rest ++ last ∷ []) (first ∷ ts)) (sym (written rest c.sink.new.turns c.pop.new.self.len (search rules) (search rules)))
+    let moved : IsPermutation (slice_set rest 0 last) c.sink.new.turns =
+    subst (λ (ts : List Turn). IsPermutation (slice_set ts 0 last) c.sink.new.turns) c.as_mut_slice.ensures.value
+    c.sink.ensures.moved in
+    subst (λ (ts : List Turn). IsPermutation ts
+    (first ∷ take c.pop.new.self.len (c.sink.new.turns ++ drop (length c.sink.new.turns) rest)))
+    (sym c.in_ok-last.ensures.items)
+    (subst (λ (ts : List Turn). IsPermutation (rest ++ last ∷ []) (first ∷ ts))
+    (sym (written rest c.sink.new.turns c.pop.new.self.len (search rules) (search rules)))
     (first_out rest first last c.sink.new.turns some c.index-first.ensures moved))
 
 pub returns-clause-first : goal.returns-clause-first
@@ -36,12 +42,15 @@ returns-clause-first c =
     let some : 0 < length rest = search rules in
     let order : AreInOrder (rest ++ last ∷ []) = subst AreInOrder c.in_ok-last.ensures.items c.requires in
     subst (IsFirst first) (sym c.in_ok-last.ensures.items)
-    (first_is (rest ++ last ∷ []) first order (search rules) (c.index-first.ensures ∙ sym (get_or_append_left rest (last ∷ []) first 0 some)))
+    (first_is (rest ++ last ∷ []) first order (search rules)
+    (c.index-first.ensures ∙ sym (get_or_append_left rest (last ∷ []) first 0 some)))
 
 pub returns-clause-order : goal.returns-clause-order
 returns-clause-order c =
-    subst AreInOrder (sym (written c.pop.new.self.items c.sink.new.turns c.pop.new.self.len (search rules) (search rules))) c.sink.ensures.order
+    subst AreInOrder (sym (written c.pop.new.self.items c.sink.new.turns c.pop.new.self.len (search rules)
+    (search rules))) c.sink.ensures.order
 
 pub sink-requires-clause-order : goal.sink-requires-clause-order
 sink-requires-clause-order c =
-    subst AreInOrder (sym c.as_mut_slice.ensures.value) (shorter_order c.pop.new.self.items c.in_ok-last.last (subst AreInOrder c.in_ok-last.ensures.items c.requires))
+    subst AreInOrder (sym c.as_mut_slice.ensures.value)
+    (shorter_order c.pop.new.self.items c.in_ok-last.last (subst AreInOrder c.in_ok-last.ensures.items c.requires))

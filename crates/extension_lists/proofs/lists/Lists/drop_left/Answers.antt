@@ -6,11 +6,19 @@ use Rattle.extension_lists.proofs.Leaving.{sound_from_left, taken_from_left}
 use Rattle.extension_lists.proofs.lists.Lists.drop_left.Goals as goal
 
 pub take_out-requires-clause-inside : goal.take_out-requires-clause-inside
-take_out-requires-clause-inside c = omega (arith, inside_then c.self.inside.known.items c.self.inside.pool c.args.self.now c.args.r c.key-list.result c.self.view_is c.self.invariant c.requires c.key-list.ensures.value)
+take_out-requires-clause-inside c =
+    omega (
+      arith,
+      inside_then c.self.inside.known.items c.self.inside.pool c.args.self.now c.args.r c.key-list.result
+          c.self.view_is c.self.invariant c.requires c.key-list.ensures.value,
+    )
 
 pub invariant_of-self : goal.invariant_of-self
-invariant_of-self c = sound_from_left c.self.inside.known.items c.self.inside.pool c.take_out.new.pool c.args.id c.key-list.result c.self.invariant
-    (flag_at c.self.inside.known.items c.self.inside.pool c.args.self.now c.args.r c.key-list.result c.self.view_is c.requires c.key-list.ensures.value)
+invariant_of-self c =
+    sound_from_left c.self.inside.known.items c.self.inside.pool c.take_out.new.pool c.args.id c.key-list.result
+    c.self.invariant
+    (flag_at c.self.inside.known.items c.self.inside.pool c.args.self.now c.args.r c.key-list.result c.self.view_is
+    c.requires c.key-list.ensures.value)
     c.take_out.ensures.only c.take_out.ensures.without c.take_out.ensures.stars
 
 pub returns : goal.returns
@@ -18,6 +26,8 @@ returns c =
     let new = known_by c.self.inside.known.items c.take_out.new.pool in
     subst (λ k. IsTakenFromLeft c.args.self.now new c.args.id k) c.key-list.ensures.value
     (subst (λ (m : Known). IsTakenFromLeft m new c.args.id c.key-list.result) c.self.view_is
-    (taken_from_left c.self.inside.known.items c.self.inside.pool c.take_out.new.pool c.args.id c.key-list.result c.self.invariant
-    (flag_at c.self.inside.known.items c.self.inside.pool c.args.self.now c.args.r c.key-list.result c.self.view_is c.requires c.key-list.ensures.value)
+    (taken_from_left c.self.inside.known.items c.self.inside.pool c.take_out.new.pool c.args.id c.key-list.result
+    c.self.invariant
+    (flag_at c.self.inside.known.items c.self.inside.pool c.args.self.now c.args.r c.key-list.result c.self.view_is
+    c.requires c.key-list.ensures.value)
     c.take_out.ensures.only c.take_out.ensures.without c.take_out.ensures.stars))

@@ -10,5 +10,7 @@ returns-clause-weight c =
     let same : n ≡ c.args.self.now.vertices = ap (λ g. g.vertices) c.self.view_is in
     let from : c.args.u < n = omega (arith, same, c.requires.from) in
     let to : c.args.v < n = omega (arith, same, c.requires.to) in
-    let place : c.args.u * n + c.args.v < length c.self.inside.cells.items = omega (arith, mul-add-lt c.args.u n c.args.v n from to, c.self.invariant.size) in
-    rw (← c.self.view_is) (get_or_read c.self.inside.cells.items _ _ place c.index.ensures None ∙ sym (weight-rows n c.self.inside.cells.items c.args.u c.args.v from to))
+    let place : c.args.u * n + c.args.v < length c.self.inside.cells.items =
+    omega (arith, mul-add-lt c.args.u n c.args.v n from to, c.self.invariant.size) in
+    rw (← c.self.view_is) (get_or_read c.self.inside.cells.items _ _ place c.index.ensures None
+    ∙ sym (weight-rows n c.self.inside.cells.items c.args.u c.args.v from to))

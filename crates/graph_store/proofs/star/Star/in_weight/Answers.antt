@@ -9,4 +9,5 @@ returns-clause-weight c =
     let same : s.vertices ≡ c.args.self.now.vertices = ap (λ t. t.vertices) c.self.view_is in
     let inside : c.args.u < s.vertices = omega (arith, same, c.requires) in
     let place : c.args.u < length s.into.items = omega (arith, inside, c.self.invariant.into_size) in
-    rw (← c.self.view_is) (get_or_read s.into.items _ _ place c.index.ensures None ∙ sym (in_weight-rows s.vertices s.vertex s.out.items s.into.items c.args.u inside c.self.invariant))
+    rw (← c.self.view_is) (get_or_read s.into.items _ _ place c.index.ensures None
+    ∙ sym (in_weight-rows s.vertices s.vertex s.out.items s.into.items c.args.u inside c.self.invariant))

@@ -10,24 +10,30 @@ pub returns-in_err-weight-clause-answer : goal.returns-in_err-weight-clause-answ
 returns-in_err-weight-clause-answer c =
     let s = c.self.inside in
     let p = err_from_is_err_and c.from_residual.result c.from_residual.ensures.1 in
-    rw (p.1, p.2) (also_err _ _ c.args.w _ (out_answer s.vertices s.vertex s.out.items s.into.items c.args.u c.self.invariant _ c.args.self.now c.args.w c.deref.ensures.value c.self.view_is) c.in_err-weight.ensures)
+    rw (p.1, p.2) (also_err _ _ c.args.w _
+    (out_answer s.vertices s.vertex s.out.items s.into.items c.args.u c.self.invariant _ c.args.self.now c.args.w
+    c.deref.ensures.value c.self.view_is) c.in_err-weight.ensures)
 
 pub invariant_of-self : goal.invariant_of-self
 invariant_of-self c =
     let s = c.self.inside in
-    let x = new_cell s.vertices (length c.deref.result.now) s.vertex _ c.args.u c.args.w c.in_ok-weight.weight (ap length c.deref.ensures.value ∙ c.self.invariant.out_size) c.in_ok-weight.ensures in
+    let x = new_cell s.vertices (length c.deref.result.now) s.vertex _ c.args.u c.args.w c.in_ok-weight.weight
+    (ap length c.deref.ensures.value ∙ c.self.invariant.out_size) c.in_ok-weight.ensures in
     out_row_put s.vertices s.vertex s.out.items s.into.items c.args.u c.self.invariant x.inside x.apart _ x.range
 
 pub returns-clause-answer : goal.returns-clause-answer
 returns-clause-answer c =
     let s = c.self.inside in
-    also_ok _ _ c.args.w _ (out_answer s.vertices s.vertex s.out.items s.into.items c.args.u c.self.invariant _ c.args.self.now c.args.w c.deref.ensures.value c.self.view_is) c.in_ok-weight.ensures
+    also_ok _ _ c.args.w _ (out_answer s.vertices s.vertex s.out.items s.into.items c.args.u c.self.invariant _
+    c.args.self.now c.args.w c.deref.ensures.value c.self.view_is) c.in_ok-weight.ensures
 
 pub returns-clause-ok : goal.returns-clause-ok
 returns-clause-ok c =
     let s = c.self.inside in
-    let x = new_cell s.vertices (length c.deref.result.now) s.vertex _ c.args.u c.args.w c.in_ok-weight.weight (ap length c.deref.ensures.value ∙ c.self.invariant.out_size) c.in_ok-weight.ensures in
-    out_edge_put s.vertices s.vertex s.out.items s.into.items c.args.u c.self.invariant x.inside x.apart (Some c.in_ok-weight.weight) x.range
+    let x = new_cell s.vertices (length c.deref.result.now) s.vertex _ c.args.u c.args.w c.in_ok-weight.weight
+    (ap length c.deref.ensures.value ∙ c.self.invariant.out_size) c.in_ok-weight.ensures in
+    out_edge_put s.vertices s.vertex s.out.items s.into.items c.args.u c.self.invariant x.inside x.apart
+    (Some c.in_ok-weight.weight) x.range
     ∙ ap (with_edge (star_of_rows s.vertices s.vertex s.out.items s.into.items) (s.vertex, c.args.u)) x.weight
     ∙ ap (λ (t : Star). with_edge t (t.vertex, c.args.u) c.args.w) c.self.view_is
 

@@ -1,4 +1,4 @@
-use Rattle.std.proofs.Common.{ℕ, List, [], ◌∷◌, ◌++◌, ◌+◌, ◌≡◌, true, length, sym, ◌∙◌, ap, subst, arith}
+use Rattle.std.proofs.Common.{ℕ, List, [], ◌∷◌, ◌++◌, ◌+◌, ◌≡◌, true, Option, Some, length, sym, ◌∙◌, ap, subst, arith}
 use Rattle.std.proofs.lemmas.List.{length-append}
 use Rattle.apsp_model.specs.Graph.{Graph}
 use Rattle.apsp_model.specs.Paths.{IsOncePerList}
@@ -17,10 +17,12 @@ update-made-requires-clause-ready g c κs within =
     let paths = kept_paths c.self.inside.book in
     let steps = c.self.inside.progress.steps in
     subst (λ v. IsStepReady v c.apply.new.self steps paths) (sym c.vertex-v.ensures.vertex)
-    (subst (λ (h : Graph). IsStepReady c.args.star.now.vertex h steps paths) (sym c.apply.ensures.after) (star_ready c.self.inside.graph c.args.star.now steps paths (c.self.invariant.paths c.if-self.false)))
+    (subst (λ (h : Graph). IsStepReady c.args.star.now.vertex h steps paths) (sym c.apply.ensures.after)
+    (star_ready c.self.inside.graph c.args.star.now steps paths (c.self.invariant.paths c.if-self.false)))
 
 -- all steps of the update were made
-made : (g : Over) (c : goal.After-len g) → UpdateInvariant c.args.self.now c.args.star.now c.apply.new.self [] c.in-Ok.progress.steps c.in-Ok.progress.formed c.in-Ok.progress.removed (kept_paths c.update-made.new.book)
+made : (g : Over) (c : goal.After-len g) → UpdateInvariant c.args.self.now c.args.star.now c.apply.new.self []
+    c.in-Ok.progress.steps c.in-Ok.progress.formed c.in-Ok.progress.removed (kept_paths c.update-made.new.book)
 made g c = c.in-Ok.ensures.done c.args.self.now c.args.star.now (record {
   graph = c.apply.ensures.after ∙ ap (λ (e : EngineSeen). star_of e.graph c.args.star.now) c.self.view_is;
   smooth = sym (ap (λ (e : EngineSeen). e.smooth) c.self.view_is);
@@ -32,14 +34,18 @@ made g c = c.in-Ok.ensures.done c.args.self.now c.args.star.now (record {
 
 pub invariant_of-self : goal.invariant_of-self
 invariant_of-self g c =
-    let same : c.apply.new.self.vertices ≡ c.self.inside.graph.vertices = ap (λ (h : Graph). h.vertices) c.apply.ensures.after in
+    let same : c.apply.new.self.vertices ≡ c.self.inside.graph.vertices =
+    ap (λ (h : Graph). h.vertices) c.apply.ensures.after in
     let more : length c.record.new.self.vertices ≡ length c.self.inside.timeline.vertices + 1 =
-    ap length (c.record.ensures.vertices ∙ ap (λ (vs : List ℕ). vs ++ c.vertex-v.result ∷ []) c.update-made.ensures.timeline) ∙ length-append c.self.inside.timeline.vertices (c.vertex-v.result ∷ []) in
-    let now : length c.self.inside.timeline.vertices ≡ length c.args.self.now.vertices = ap (λ (e : EngineSeen). length e.vertices) c.self.view_is in
+    ap length (c.record.ensures.vertices ∙ ap (λ (vs : List (Option ℕ)). vs ++ Some c.vertex-v.result ∷ [])
+    c.update-made.ensures.timeline) ∙ length-append c.self.inside.timeline.vertices (Some c.vertex-v.result ∷ []) in
+    let now : length c.self.inside.timeline.vertices ≡ length c.args.self.now.vertices =
+    ap (λ (e : EngineSeen). length e.vertices) c.self.view_is in
     record {
       star_size = ap (λ s. s.vertices) c.star_into.ensures.star ∙ sym same;
       book_size = λ e. c.in-Ok.ensures.book_size ∙ c.self.invariant.book_size e ∙ sym same;
-      timeline_size = c.record.ensures.size ∙ c.update-made.ensures.timeline_size ∙ c.self.invariant.timeline_size ∙ sym same;
+      timeline_size =
+          c.record.ensures.size ∙ c.update-made.ensures.timeline_size ∙ c.self.invariant.timeline_size ∙ sym same;
       few_updates = omega (arith, more, now, c.requires.few);
       few_steps = omega (arith, more, c.in-Ok.ensures.steps_few, c.self.invariant.few_steps);
       paths = λ e. (made g c).lawful;
@@ -49,21 +55,22 @@ pub returns-in-Ok-clause-advance : goal.returns-in-Ok-clause-advance
 returns-in-Ok-clause-advance g c =
     update_done c.args.self.now c.args.star.now _
     (subst IsOncePerList (ap paths_of c.self.view_is) (c.self.invariant.paths c.if-self.false).once)
-    (ap (λ (h : Graph). h.vertices) c.apply.ensures.after ∙ ap (λ (e : EngineSeen). e.opening) c.self.view_is)
+    (ap (λ (e : EngineSeen). e.opening) c.self.view_is)
     (ap (λ (e : EngineSeen). e.smooth) c.self.view_is)
     (c.apply.ensures.after ∙ ap (λ (e : EngineSeen). star_of e.graph c.args.star.now) c.self.view_is)
-    (c.record.ensures.vertices ∙ (λ i. (c.update-made.ensures.timeline ∙ ap (λ (e : EngineSeen). e.vertices) c.self.view_is) i ++ c.vertex-v.ensures.vertex i ∷ []))
+    (c.record.ensures.vertices ∙ (λ i. (c.update-made.ensures.timeline
+    ∙ ap (λ (e : EngineSeen). e.vertices) c.self.view_is) i ++ Some (c.vertex-v.ensures.vertex i) ∷ []))
     c.if-self.false
     (made g c)
 
 pub returns-in-Err-clause-memory : goal.returns-in-Err-clause-memory
 returns-in-Err-clause-memory g c =
     let back : c.apply-in-Err.new.self ≡ c.args.self.now.graph =
-    c.apply-in-Err.ensures.after ∙ (λ i. star_of (c.apply.ensures.after i) (c.star_into.ensures.star i)) ∙ taken_back c.self.inside.graph c.args.star.now c.vertex-v.result c.vertex-v.ensures.vertex ∙ ap (λ (e : EngineSeen). e.graph) c.self.view_is in
-    let count : c.apply-in-Err.new.self.vertices ≡ c.args.self.now.opening =
-    ap (λ (h : Graph). h.vertices) (c.apply-in-Err.ensures.after ∙ (λ i. star_of (c.apply.ensures.after i) (c.star_into.ensures.star i))) ∙ ap (λ (e : EngineSeen). e.opening) c.self.view_is in
+    c.apply-in-Err.ensures.after ∙ (λ i. star_of (c.apply.ensures.after i) (c.star_into.ensures.star i))
+    ∙ taken_back c.self.inside.graph c.args.star.now c.vertex-v.result c.vertex-v.ensures.vertex
+    ∙ ap (λ (e : EngineSeen). e.graph) c.self.view_is in
     λ _ i. record {
-      opening = count i;
+      opening = (ap (λ (e : EngineSeen). e.opening) c.self.view_is) i;
       graph = back i;
       smooth = (ap (λ (e : EngineSeen). e.smooth) c.self.view_is) i;
       vertices = (c.update-made.ensures.timeline ∙ ap (λ (e : EngineSeen). e.vertices) c.self.view_is) i;

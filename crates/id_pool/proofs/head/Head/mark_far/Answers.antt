@@ -13,8 +13,11 @@ returns-clause-moved c =
     let free = c.args.blocks.now.free in
     let h = c.args.self.now in
     let h' : Head = record { len = h.len; mark = h.mark + 1; few = h.few } in
-    subst (λ p. IsMoved ids free (far_of h) (set (set ids (p + h.mark) c.index.result.now) (p + c.args.at) c.index-id.result.now) free (far_of h')) (sym c.place-start.ensures)
-    (far_marked_moved ids free (slice_index h.few 1) h.len (slice_index h.few 0) h.mark c.args.at c.requires.placed c.requires.inside c.index.result.now c.index-id.result.now c.requires.plain)
+    subst (λ p. IsMoved ids free (far_of h)
+    (set (set ids (p + h.mark) c.index.result.now) (p + c.args.at) c.index-id.result.now) free (far_of h'))
+    (sym c.place-start.ensures)
+    (far_marked_moved ids free (slice_index h.few 1) h.len (slice_index h.few 0) h.mark c.args.at c.requires.placed
+    c.requires.inside c.index.result.now c.index-id.result.now c.requires.plain)
 
 pub returns-clause-marked : goal.returns-clause-marked
 returns-clause-marked c =
@@ -27,7 +30,11 @@ returns-clause-marked c =
     let start_is : start ≡ slice_index h.few 0 = c.place-start.ensures in
     let inside : start + h.len ≤ length ids = omega (arith, c.requires.placed.at.1, c.requires.placed.at.3, start_is) in
     let h' : Head = record { len = h.len; mark = h.mark + 1; few = h.few } in
-    subst (λ p. IsMarkedAt (held_of ids (far_of h)) (held_of (set (set ids (p + h.mark) x) (p + c.args.at) y) (far_of h')) c.args.at) (sym start_is)
-    (far_marked ids free (slice_index h.few 1) h.len (slice_index h.few 0) h.mark c.args.at c.requires.placed c.requires.inside x y c.requires.plain
-    (get_or_read ids (start + c.args.at) x (omega (arith, inside, c.requires.inside)) c.index.ensures 0 ∙ ap (λ p. get_or ids (p + c.args.at) 0) start_is)
-    (get_or_read ids (start + h.mark) y (omega (arith, inside, c.requires.inside, c.requires.plain)) c.index-id.ensures 0 ∙ ap (λ p. get_or ids (p + h.mark) 0) start_is))
+    subst (λ p. IsMarkedAt (held_of ids (far_of h))
+    (held_of (set (set ids (p + h.mark) x) (p + c.args.at) y) (far_of h')) c.args.at) (sym start_is)
+    (far_marked ids free (slice_index h.few 1) h.len (slice_index h.few 0) h.mark c.args.at c.requires.placed
+    c.requires.inside x y c.requires.plain
+    (get_or_read ids (start + c.args.at) x (omega (arith, inside, c.requires.inside)) c.index.ensures 0
+    ∙ ap (λ p. get_or ids (p + c.args.at) 0) start_is)
+    (get_or_read ids (start + h.mark) y (omega (arith, inside, c.requires.inside, c.requires.plain)) c.index-id.ensures
+    0 ∙ ap (λ p. get_or ids (p + h.mark) 0) start_is))

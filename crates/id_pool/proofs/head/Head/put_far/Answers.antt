@@ -13,7 +13,8 @@ use Rattle.id_pool.proofs.head.Head.put_far.Goals as goal
 many_of : (h : Head) → 3 ≤ len_of (shape h) → (h.len ≡ 3 → ⊥) → 3 < h.len
 many_of h many other = elim (cases_lt 3 h.len) [
   | inl more ↦ more
-  | inr upto ↦ let three : 3 ≤ h.len = subst (λ (s : Shape). 3 ≤ len_of s) (near_is h upto) many in absurd (other (omega arith))
+  | inr upto ↦ let three : 3 ≤ h.len =
+      subst (λ (s : Shape). 3 ≤ len_of s) (near_is h upto) many in absurd (other (omega arith))
 ]
 
 pub returns-then-len-eq3-clause-moved : goal.returns-then-len-eq3-clause-moved
@@ -24,11 +25,15 @@ returns-then-len-eq3-clause-moved c =
     let to = c.in_ok-to.to in
     let mark = c.args.self.now.mark in
     let placed = as_near ids free c.args.self.now (omega (arith, c.if-len-eq3.true)) c.requires.placed in
-    moved_as ids free (set ids1 (to + 3) c.args.id) c.spill.new.blocks.free c.args.self.now c.stand.new.self (Near 3 mark c.args.self.now.few) (Far 0 4 to mark)
+    moved_as ids free (set ids1 (to + 3) c.args.id) c.spill.new.blocks.free c.args.self.now c.stand.new.self
+    (Near 3 mark c.args.self.now.few) (Far 0 4 to mark)
     (near_three c.args.self.now c.if-len-eq3.true) c.stand.ensures
-    (moved_then ids free ids1 c.spill.new.blocks.free (set ids1 (to + 3) c.args.id) c.spill.new.blocks.free (Near 3 mark c.args.self.now.few) (Far 0 3 to mark) (Far 0 4 to mark)
+    (moved_then ids free ids1 c.spill.new.blocks.free (set ids1 (to + 3) c.args.id) c.spill.new.blocks.free
+    (Near 3 mark c.args.self.now.few) (Far 0 3 to mark) (Far 0 4 to mark)
     (c.in_ok-to.ensures.moved mark)
-    (written ids1 (set ids1 (to + 3) c.args.id) c.spill.new.blocks.free 0 3 to mark 4 mark (omega arith) (omega (arith, placed.at.1, c.if-len-eq3.true)) (length-set ids1 (to + 3) c.args.id) (set_outside ids1 to (room_of 0) (to + 3) c.args.id (omega arith) (omega arith))))
+    (written ids1 (set ids1 (to + 3) c.args.id) c.spill.new.blocks.free 0 3 to mark 4 mark (omega arith)
+    (omega (arith, placed.at.1, c.if-len-eq3.true)) (length-set ids1 (to + 3) c.args.id)
+    (set_outside ids1 to (room_of 0) (to + 3) c.args.id (omega arith) (omega arith))))
 
 pub returns-then-len-eq3-clause-ids : goal.returns-then-len-eq3-clause-ids
 returns-then-len-eq3-clause-ids c =
@@ -36,9 +41,11 @@ returns-then-len-eq3-clause-ids c =
     let ids1 = c.spill.new.blocks.ids.items in
     let to = c.in_ok-to.to in
     let mark = c.args.self.now.mark in
-    ids_as ids (set ids1 (to + 3) c.args.id) c.args.self.now c.stand.new.self (Near 3 mark c.args.self.now.few) (Far 0 4 to mark) (λ xs. xs ++ c.args.id ∷ [])
+    ids_as ids (set ids1 (to + 3) c.args.id) c.args.self.now c.stand.new.self (Near 3 mark c.args.self.now.few)
+    (Far 0 4 to mark) (λ xs. xs ++ c.args.id ∷ [])
     (near_three c.args.self.now c.if-len-eq3.true) c.stand.ensures
-    (part_push ids1 to 3 c.args.id (omega (arith, c.in_ok-to.ensures.inside)) ∙ ap (λ (xs : List ℕ). xs ++ c.args.id ∷ []) c.in_ok-to.ensures.ids)
+    (part_push ids1 to 3 c.args.id (omega (arith, c.in_ok-to.ensures.inside))
+    ∙ ap (λ (xs : List ℕ). xs ++ c.args.id ∷ []) c.in_ok-to.ensures.ids)
 
 pub returns-then-len-room-clause-moved : goal.returns-then-len-room-clause-moved
 returns-then-len-room-clause-moved c =
@@ -50,10 +57,14 @@ returns-then-len-room-clause-moved c =
     let h' : Head = record { len = h.len + 1; mark = h.mark; few = h.few } in
     let many : 3 < h.len = many_of c.args.self.now c.requires.many c.if-len-eq3.false in
     let placed = as_far ids free h many c.requires.placed in
-    let room : h.len < room_of level = subst (λ l. h.len < room_of l) c.level-level.ensures (omega (arith, c.if-len-room.true, c.room.ensures.is)) in
+    let room : h.len < room_of level =
+    subst (λ l. h.len < room_of l) c.level-level.ensures (omega (arith, c.if-len-room.true, c.room.ensures.is)) in
     subst (λ p. IsMoved ids free (shape h) (set ids (p + h.len) c.args.id) free (shape h')) (sym c.place-place.ensures)
-    (moved_as ids free (set ids (place + h.len) c.args.id) free h h' (far_of h) (far_of h') (far_is h many) (far_is h' (omega arith))
-    (written ids (set ids (place + h.len) c.args.id) free level h.len place h.mark (h.len + 1) h.mark (omega (arith, room)) (omega (arith, placed.at.2)) (length-set ids (place + h.len) c.args.id) (set_outside ids place (room_of level) (place + h.len) c.args.id (omega arith) (omega (arith, room)))))
+    (moved_as ids free (set ids (place + h.len) c.args.id) free h h' (far_of h) (far_of h') (far_is h many)
+    (far_is h' (omega arith))
+    (written ids (set ids (place + h.len) c.args.id) free level h.len place h.mark (h.len + 1) h.mark
+    (omega (arith, room)) (omega (arith, placed.at.2)) (length-set ids (place + h.len) c.args.id)
+    (set_outside ids place (room_of level) (place + h.len) c.args.id (omega arith) (omega (arith, room)))))
 
 pub returns-then-len-room-clause-ids : goal.returns-then-len-room-clause-ids
 returns-then-len-room-clause-ids c =
@@ -65,9 +76,12 @@ returns-then-len-room-clause-ids c =
     let h' : Head = record { len = h.len + 1; mark = h.mark; few = h.few } in
     let many : 3 < h.len = many_of c.args.self.now c.requires.many c.if-len-eq3.false in
     let placed = as_far ids free h many c.requires.placed in
-    let room : h.len < room_of level = subst (λ l. h.len < room_of l) c.level-level.ensures (omega (arith, c.if-len-room.true, c.room.ensures.is)) in
-    subst (λ p. ids_of (set ids (p + h.len) c.args.id) (shape h') ≡ ids_of ids (shape h) ++ c.args.id ∷ []) (sym c.place-place.ensures)
-    (ids_as ids (set ids (place + h.len) c.args.id) h h' (far_of h) (far_of h') (λ xs. xs ++ c.args.id ∷ []) (far_is h many) (far_is h' (omega arith))
+    let room : h.len < room_of level =
+    subst (λ l. h.len < room_of l) c.level-level.ensures (omega (arith, c.if-len-room.true, c.room.ensures.is)) in
+    subst (λ p. ids_of (set ids (p + h.len) c.args.id) (shape h') ≡ ids_of ids (shape h) ++ c.args.id ∷ [])
+    (sym c.place-place.ensures)
+    (ids_as ids (set ids (place + h.len) c.args.id) h h' (far_of h) (far_of h') (λ xs. xs ++ c.args.id ∷ [])
+    (far_is h many) (far_is h' (omega arith))
     (part_push ids place h.len c.args.id (omega (arith, room, placed.at.3))))
 
 pub returns-clause-moved : goal.returns-clause-moved
@@ -83,14 +97,21 @@ returns-clause-moved c =
     let fits : h.len + 1 ≤ room_of (level + 1) = omega (arith, placed.at.1, room_double level, room_some level) in
     let place_is : c.place-place.result ≡ slice_index h.few 0 = c.place-place.ensures in
     let level_is : c.level-level.result ≡ level = c.level-level.ensures in
-    let stands : shape c.stand-2.new.self ≡ Far (level + 1) (h.len + 1) to h.mark = c.stand-2.ensures ∙ ap (λ l. Far (l + 1) (h.len + 1) to h.mark) level_is in
+    let stands : shape c.stand-2.new.self ≡ Far (level + 1) (h.len + 1) to h.mark =
+    c.stand-2.ensures ∙ ap (λ l. Far (l + 1) (h.len + 1) to h.mark) level_is in
     let grown : IsMoved ids free (far_of h) ids1 c.grow.new.blocks.free (Far (level + 1) h.len to h.mark) =
-    subst (λ p. IsMoved ids free (Far level h.len p h.mark) ids1 c.grow.new.blocks.free (Far (level + 1) h.len to h.mark)) place_is
-    (subst (λ l. IsMoved ids free (Far l h.len c.place-place.result h.mark) ids1 c.grow.new.blocks.free (Far (l + 1) h.len to h.mark)) level_is (c.in_ok-to-2.ensures.moved h.mark)) in
-    moved_as ids free (set ids1 (to + h.len) c.args.id) c.grow.new.blocks.free h c.stand-2.new.self (far_of h) (Far (level + 1) (h.len + 1) to h.mark) (far_is h many) stands
-    (moved_then ids free ids1 c.grow.new.blocks.free (set ids1 (to + h.len) c.args.id) c.grow.new.blocks.free (far_of h) (Far (level + 1) h.len to h.mark) (Far (level + 1) (h.len + 1) to h.mark)
+    subst (λ p. IsMoved ids free (Far level h.len p h.mark) ids1 c.grow.new.blocks.free
+    (Far (level + 1) h.len to h.mark)) place_is
+    (subst (λ l. IsMoved ids free (Far l h.len c.place-place.result h.mark) ids1 c.grow.new.blocks.free
+    (Far (l + 1) h.len to h.mark)) level_is (c.in_ok-to-2.ensures.moved h.mark)) in
+    moved_as ids free (set ids1 (to + h.len) c.args.id) c.grow.new.blocks.free h c.stand-2.new.self (far_of h)
+    (Far (level + 1) (h.len + 1) to h.mark) (far_is h many) stands
+    (moved_then ids free ids1 c.grow.new.blocks.free (set ids1 (to + h.len) c.args.id) c.grow.new.blocks.free (far_of h)
+    (Far (level + 1) h.len to h.mark) (Far (level + 1) (h.len + 1) to h.mark)
     grown
-    (written ids1 (set ids1 (to + h.len) c.args.id) c.grow.new.blocks.free (level + 1) h.len to h.mark (h.len + 1) h.mark fits (omega (arith, placed.at.2)) (length-set ids1 (to + h.len) c.args.id) (set_outside ids1 to (room_of (level + 1)) (to + h.len) c.args.id (omega arith) (omega (arith, fits)))))
+    (written ids1 (set ids1 (to + h.len) c.args.id) c.grow.new.blocks.free (level + 1) h.len to h.mark (h.len + 1)
+    h.mark fits (omega (arith, placed.at.2)) (length-set ids1 (to + h.len) c.args.id)
+    (set_outside ids1 to (room_of (level + 1)) (to + h.len) c.args.id (omega arith) (omega (arith, fits)))))
 
 pub returns-clause-ids : goal.returns-clause-ids
 returns-clause-ids c =
@@ -104,8 +125,13 @@ returns-clause-ids c =
     let placed = as_far ids free h many c.requires.placed in
     let place_is : c.place-place.result ≡ slice_index h.few 0 = c.place-place.ensures in
     let level_is : c.level-level.result ≡ level = c.level-level.ensures in
-    let stands : shape c.stand-2.new.self ≡ Far (level + 1) (h.len + 1) to h.mark = c.stand-2.ensures ∙ ap (λ l. Far (l + 1) (h.len + 1) to h.mark) level_is in
-    let kept : take h.len (drop to ids1) ≡ take h.len (drop (slice_index h.few 0) ids) = c.in_ok-to-2.ensures.ids ∙ ap (λ p. take h.len (drop p ids)) place_is in
-    let inside : to + room_of (level + 1) ≤ length ids1 = subst (λ l. to + room_of (l + 1) ≤ length ids1) level_is c.in_ok-to-2.ensures.inside in
-    ids_as ids (set ids1 (to + h.len) c.args.id) h c.stand-2.new.self (far_of h) (Far (level + 1) (h.len + 1) to h.mark) (λ xs. xs ++ c.args.id ∷ []) (far_is h many) stands
-    (part_push ids1 to h.len c.args.id (omega (arith, inside, placed.at.1, room_double level, room_some level)) ∙ ap (λ (xs : List ℕ). xs ++ c.args.id ∷ []) kept)
+    let stands : shape c.stand-2.new.self ≡ Far (level + 1) (h.len + 1) to h.mark =
+    c.stand-2.ensures ∙ ap (λ l. Far (l + 1) (h.len + 1) to h.mark) level_is in
+    let kept : take h.len (drop to ids1) ≡ take h.len (drop (slice_index h.few 0) ids) =
+    c.in_ok-to-2.ensures.ids ∙ ap (λ p. take h.len (drop p ids)) place_is in
+    let inside : to + room_of (level + 1) ≤ length ids1 =
+    subst (λ l. to + room_of (l + 1) ≤ length ids1) level_is c.in_ok-to-2.ensures.inside in
+    ids_as ids (set ids1 (to + h.len) c.args.id) h c.stand-2.new.self (far_of h) (Far (level + 1) (h.len + 1) to h.mark)
+    (λ xs. xs ++ c.args.id ∷ []) (far_is h many) stands
+    (part_push ids1 to h.len c.args.id (omega (arith, inside, placed.at.1, room_double level, room_some level))
+    ∙ ap (λ (xs : List ℕ). xs ++ c.args.id ∷ []) kept)

@@ -7,7 +7,8 @@ use Rattle.pair_heaps.proofs.heaps.Heaps.held.Goals as goal
 lent : (c : goal.After-held) → c.held.result.now ≡ held_at c.args.self.now c.args.x c.args.y
 lent c =
     let v = c.index-pair.result.now in
-    let w = written c.self.inside.n c.self.inside.pairs.items c.args.self.now c.args.x c.args.y c.place.result v v c.self.view_is c.self.invariant c.requires.from c.requires.to c.place.ensures.is c.index-pair.ensures in
+    let w = written c.self.inside.n c.self.inside.pairs.items c.args.self.now c.args.x c.args.y c.place.result v v
+    c.self.view_is c.self.invariant c.requires.from c.requires.to c.place.ensures.is c.index-pair.ensures in
     c.held.ensures.held ∙ sym (ap (λ (p : Pair). p.held) w.was)
 
 pub returns-clause-held : goal.returns-clause-held

@@ -12,4 +12,6 @@ pub returns-clause-empty : goal.returns-clause-empty
 returns-clause-empty c = λ x y. none_held c.rows.pairs.items c.rows.invariant.1 (place_of c.args.n x y)
 
 pub returns-clause-fits : goal.returns-clause-fits
-returns-clause-fits c = λ a vertices. fits_empty (heaps_of c.args.n c.rows.pairs.items) a vertices (λ x y. none_held c.rows.pairs.items c.rows.invariant.1 (place_of c.args.n x y))
+returns-clause-fits c =
+    λ a vertices. fits_empty (heaps_of c.args.n c.rows.pairs.items) a vertices
+    (λ x y. none_held c.rows.pairs.items c.rows.invariant.1 (place_of c.args.n x y))

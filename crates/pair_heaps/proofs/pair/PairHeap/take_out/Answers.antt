@@ -13,22 +13,36 @@ is_out : (c : goal.After-set_len) → IsTakenOut c.args.arena.now c.args.id c.ar
 is_out c = elim c.match-self.branch [
   | in-InPlace w ↦
       let k = c.len-len.result in
-      let view : pair_of (InPlace w.in-InPlace.field-0 w.in-InPlace.few) ≡ c.args.self.now = subst (λ (i : Ids). pair_of i ≡ c.args.self.now) w.in-InPlace.is c.self.view_is in
+      let view : pair_of (InPlace w.in-InPlace.field-0 w.in-InPlace.few) ≡ c.args.self.now =
+      subst (λ (i : Ids). pair_of i ≡ c.args.self.now) w.in-InPlace.is c.self.view_is in
       let as_many : k ≡ w.in-InPlace.field-0 = subst (λ (i : Ids). k ≡ id_count i) w.in-InPlace.is c.len-len.ensures in
-      let sound : IsPairHeap (InPlace w.in-InPlace.field-0 w.in-InPlace.few) = subst (λ (i : Ids). IsPairHeap i) w.in-InPlace.is c.self.invariant in
-      let now : c.set_len.new.self ≡ InPlace (k - 1) w.take_out_of.new.entries = c.set_len.ensures ∙ ap (λ (i : Inside). with_len i.ids (k - 1)) w.self-inside-is in
+      let sound : IsPairHeap (InPlace w.in-InPlace.field-0 w.in-InPlace.few) =
+      subst (λ (i : Ids). IsPairHeap i) w.in-InPlace.is c.self.invariant in
+      let now : c.set_len.new.self ≡ InPlace (k - 1) w.take_out_of.new.entries =
+      c.set_len.ensures ∙ ap (λ (i : Inside). with_len i.ids (k - 1)) w.self-inside-is in
       subst (λ (i : Ids). IsTakenOut c.args.arena.now c.args.id c.args.self.now i) (sym now)
-      (taken_out c.args.arena.now c.args.id k 3 c.args.self.now w.in-InPlace.few w.take_out_of.new.entries (InPlace (k - 1) w.take_out_of.new.entries)
-      (ap (λ n. take n w.in-InPlace.few) as_many ∙ ap (λ (p : Pair). p.held) view) (omega (arith, as_many, sound.0)) (subst (λ n. IsOnceEach (take n w.in-InPlace.few)) (sym as_many) sound.1) w.take_out_of.ensures.moved w.take_out_of.ensures.heap (λ h. h) refl)
+      (taken_out c.args.arena.now c.args.id k 3 c.args.self.now w.in-InPlace.few w.take_out_of.new.entries
+      (InPlace (k - 1) w.take_out_of.new.entries)
+      (ap (λ n. take n w.in-InPlace.few) as_many ∙ ap (λ (p : Pair). p.held) view) (omega (arith, as_many, sound.0))
+      (subst (λ n. IsOnceEach (take n w.in-InPlace.few)) (sym as_many) sound.1) w.take_out_of.ensures.moved
+      w.take_out_of.ensures.heap (λ h. h) refl)
   | in-InBlock w ↦
       let k = c.len-len.result in
-      let view : pair_of (InBlock w.in-InBlock.field-0 w.in-InBlock.front w.in-InBlock.block) ≡ c.args.self.now = subst (λ (i : Ids). pair_of i ≡ c.args.self.now) w.in-InBlock.is c.self.view_is in
+      let view : pair_of (InBlock w.in-InBlock.field-0 w.in-InBlock.front w.in-InBlock.block) ≡ c.args.self.now =
+      subst (λ (i : Ids). pair_of i ≡ c.args.self.now) w.in-InBlock.is c.self.view_is in
       let as_many : k ≡ w.in-InBlock.field-0 = subst (λ (i : Ids). k ≡ id_count i) w.in-InBlock.is c.len-len.ensures in
-      let sound : IsPairHeap (InBlock w.in-InBlock.field-0 w.in-InBlock.front w.in-InBlock.block) = subst (λ (i : Ids). IsPairHeap i) w.in-InBlock.is c.self.invariant in
-      let now : c.set_len.new.self ≡ InBlock (k - 1) w.take_out_of_block.result w.take_out_of_block.new.block = c.set_len.ensures ∙ ap (λ (i : Inside). with_len i.ids (k - 1)) w.self-inside-is in
+      let sound : IsPairHeap (InBlock w.in-InBlock.field-0 w.in-InBlock.front w.in-InBlock.block) =
+      subst (λ (i : Ids). IsPairHeap i) w.in-InBlock.is c.self.invariant in
+      let now : c.set_len.new.self ≡ InBlock (k - 1) w.take_out_of_block.result w.take_out_of_block.new.block =
+      c.set_len.ensures ∙ ap (λ (i : Inside). with_len i.ids (k - 1)) w.self-inside-is in
       subst (λ (i : Ids). IsTakenOut c.args.arena.now c.args.id c.args.self.now i) (sym now)
-      (taken_out c.args.arena.now c.args.id k 8 c.args.self.now w.in-InBlock.block.value w.take_out_of_block.new.block.value (InBlock (k - 1) w.take_out_of_block.result w.take_out_of_block.new.block)
-      (ap (λ n. take n w.in-InBlock.block.value) as_many ∙ ap (λ (p : Pair). p.held) view) (omega (arith, as_many, sound.0)) (subst (λ n. IsOnceEach (take n w.in-InBlock.block.value)) (sym as_many) sound.1) w.take_out_of_block.ensures.moved w.take_out_of_block.ensures.heap (λ h. (h.0, h.1, w.take_out_of_block.ensures.first, w.take_out_of_block.ensures.size)) refl)
+      (taken_out c.args.arena.now c.args.id k 8 c.args.self.now w.in-InBlock.block.value
+      w.take_out_of_block.new.block.value (InBlock (k - 1) w.take_out_of_block.result w.take_out_of_block.new.block)
+      (ap (λ n. take n w.in-InBlock.block.value) as_many ∙ ap (λ (p : Pair). p.held) view)
+      (omega (arith, as_many, sound.0))
+      (subst (λ n. IsOnceEach (take n w.in-InBlock.block.value)) (sym as_many) sound.1)
+      w.take_out_of_block.ensures.moved w.take_out_of_block.ensures.heap
+      (λ h. (h.0, h.1, w.take_out_of_block.ensures.first, w.take_out_of_block.ensures.size)) refl)
 ]
 
 pub invariant_of-self-2 : goal.invariant_of-self-2

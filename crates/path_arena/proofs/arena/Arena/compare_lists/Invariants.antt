@@ -9,7 +9,8 @@ invariant-loop-a l = record {
   first : IsLive l.self l.a;
   second : IsLive l.self l.b;
   alike : length (list_of l.self l.a) ≡ length (list_of l.self l.b);
-  same : slice_cmp nat_cmp (list_of l.self l.initial.a) (list_of l.self l.initial.b) ≡ slice_cmp nat_cmp (list_of l.self l.a) (list_of l.self l.b);
+  same : slice_cmp nat_cmp (list_of l.self l.initial.a) (list_of l.self l.initial.b) ≡ slice_cmp nat_cmp
+      (list_of l.self l.a) (list_of l.self l.b);
 }
 
 abbrev pub decreases-loop-a : goal.decreases-loop-a

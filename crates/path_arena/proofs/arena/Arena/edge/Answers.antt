@@ -4,10 +4,23 @@ use Rattle.path_arena.proofs.Calls.{Added, edge_added}
 use Rattle.path_arena.proofs.arena.Arena.edge.Goals as goal
 
 -- what the call makes of the arena
-added : (c : goal.After-put) → Added c.self.inside.singles.items c.put.new.records.slots c.args.self.now (edge_path c.args.self.now c.args.u c.args.v c.args.w c.args.birth) c.put.result
+added : (c : goal.After-put) → Added c.self.inside.singles.items c.put.new.records.slots c.args.self.now
+    (edge_path c.args.self.now c.args.u c.args.v c.args.w c.args.birth) c.put.result
 added c =
     edge_added c.self.inside c.args.self.now c.self.view_is c.self.invariant c.put.new.records.slots
-    c.args.u c.args.v c.args.w c.args.birth (record { weight = c.from.result; first = c.args.u; second = c.args.v; last = c.args.v; hops = 1; left = c.vertex-left.result; right = c.vertex-right.result; birth = c.args.birth }) c.requires.from c.requires.to c.requires.apart (omega (arith, c.ranges.w))
+    c.args.u c.args.v c.args.w c.args.birth
+    (record {
+      weight = c.from.result;
+      first = c.args.u;
+      second = c.args.v;
+      last = c.args.v;
+      hops = 1;
+      left
+          = c.vertex-left.result;
+      right = c.vertex-right.result;
+      birth = c.args.birth;
+    }) c.requires.from c.requires.to
+    c.requires.apart (omega (arith, c.ranges.w))
     (record {
       weight = cc;
       birth_is = refl;

@@ -6,7 +6,9 @@ pub loop-v-init : goal.loop-v-init
 loop-v-init c = filled_none _ _ (search rules) (search rules)
 
 pub loop-v-preserved : goal.loop-v-preserved
-loop-v-preserved c = filled_more c.loop-v.singles.items c.push.new.self.items c.loop-v.records.slots c.put.new.records.slots c.loop-v.v c.in_ok-id.id c.single_record.result c.loop-v.invariant c.single_record.ensures (search rules) (search rules)
+loop-v-preserved c =
+    filled_more c.loop-v.singles.items c.push.new.self.items c.loop-v.records.slots c.put.new.records.slots c.loop-v.v
+    c.in_ok-id.id c.single_record.result c.loop-v.invariant c.single_record.ensures (search rules) (search rules)
 
 opened : (c : goal.After-loop-v) → Opened c.loop-v.singles.items c.loop-v.records.slots c.args.n
 opened c =

@@ -6,12 +6,18 @@ use Rattle.path_arena.proofs.Calls.{Removed, path_removed}
 use Rattle.path_arena.proofs.arena.Arena.remove.Goals as goal
 
 pub remove-requires : goal.remove-requires
-remove-requires c = live_slot c.self.inside c.args.self.now c.self.view_is c.key.result (rw c.key.ensures.value (live_from_edge c.args.self.now c.args.id (lawful_inside c.self.inside c.args.self.now c.self.view_is c.self.invariant) c.requires.edge))
+remove-requires c =
+    live_slot c.self.inside c.args.self.now c.self.view_is c.key.result
+    (rw c.key.ensures.value (live_from_edge c.args.self.now c.args.id
+    (lawful_inside c.self.inside c.args.self.now c.self.view_is c.self.invariant) c.requires.edge))
 
-removed : (c : goal.After-remove) → Removed c.self.inside.singles.items c.remove.new.self.slots c.args.self.now c.args.id
+removed : (c : goal.After-remove) → Removed c.self.inside.singles.items c.remove.new.self.slots c.args.self.now
+    c.args.id
 removed c =
-    let taken : IsTaken c.self.inside.records.slots c.remove.new.self.slots c.key.result = record { here = c.remove.ensures.updates.changed; others = c.remove.ensures.updates.others } in
-    path_removed c.self.inside c.args.self.now c.self.view_is c.self.invariant c.remove.new.self.slots c.args.id c.requires.edge c.requires.free
+    let taken : IsTaken c.self.inside.records.slots c.remove.new.self.slots c.key.result =
+    record { here = c.remove.ensures.updates.changed; others = c.remove.ensures.updates.others } in
+    path_removed c.self.inside c.args.self.now c.self.view_is c.self.invariant c.remove.new.self.slots c.args.id
+    c.requires.edge c.requires.free
     (subst (IsTaken c.self.inside.records.slots c.remove.new.self.slots) c.key.ensures.value taken)
 
 pub invariant_of-self : goal.invariant_of-self

@@ -4,4 +4,5 @@ use Rattle.path_arena.specs.Arena.{list_of}
 use Rattle.path_book.proofs.book.Book.extension.Given as goal
 
 abbrev pub invariant-loop-longer : goal.invariant-loop-longer
-invariant-loop-longer l = (k : ℕ) → k < l.longer-index → last (list_of l.self-inside.arena (get_or l.longer-items k 0)) ≡ Some l.v → ⊥
+invariant-loop-longer l =
+    (k : ℕ) → k < l.longer-index → last (list_of l.self-inside.arena (get_or l.longer-items k 0)) ≡ Some l.v → ⊥

@@ -9,42 +9,74 @@ use Rattle.path_book.proofs.Clean.{ends_in_pairs, clean_forgotten}
 use Rattle.path_book.proofs.book.Book.forget.Goals as goal
 
 pub remove-requires-clause-held : goal.remove-requires-clause-held
-remove-requires-clause-held c = is_held (view_of c.self.inside) c.self.inside.heaps c.args.id c.self.invariant.stored.book c.self.invariant.stored.heaps (subst (λ (b : Book). HasAnEdge b.arena c.args.id) (sym c.self.view_is) c.requires.edge)
+remove-requires-clause-held c =
+    is_held (view_of c.self.inside) c.self.inside.heaps c.args.id c.self.invariant.stored.book
+    c.self.invariant.stored.heaps (subst (λ (b : Book). HasAnEdge b.arena c.args.id) (sym c.self.view_is)
+    c.requires.edge)
 
 pub drop_id-requires-clause-empty : goal.drop_id-requires-clause-empty
-drop_id-requires-clause-empty c = empty_lists (view_of c.self.inside) c.args.id c.self.invariant.stored.book (subst (λ (b : Book). IsPartOfNone b.arena c.args.id) (sym c.self.view_is) c.requires.free)
+drop_id-requires-clause-empty c =
+    empty_lists (view_of c.self.inside) c.args.id c.self.invariant.stored.book
+    (subst (λ (b : Book). IsPartOfNone b.arena c.args.id) (sym c.self.view_is) c.requires.free)
 
 pub drop_id-requires-clause-nowhere_else : goal.drop_id-requires-clause-nowhere_else
-drop_id-requires-clause-nowhere_else c = stands_only (view_of c.self.inside) c.args.id _ _ c.self.invariant.stored.book c.left_part-left.ensures.value c.right_part-right.ensures.value
+drop_id-requires-clause-nowhere_else c =
+    stands_only (view_of c.self.inside) c.args.id _ _ c.self.invariant.stored.book c.left_part-left.ensures.value
+    c.right_part-right.ensures.value
 
 pub note-requires : goal.note-requires
 note-requires c =
-    let inside = ends_in_pairs (view_of c.self.inside) _ c.self.inside.dirty c.args.id c.first.result c.last.result c.self.invariant.stored.book c.self.invariant.dirty c.self.view_is c.requires.edge c.first.ensures.value c.last.ensures.value in
+    let inside =
+    ends_in_pairs (view_of c.self.inside) _ c.self.inside.dirty c.args.id c.first.result c.last.result
+    c.self.invariant.stored.book c.self.invariant.dirty c.self.view_is c.requires.edge c.first.ensures.value
+    c.last.ensures.value in
     record { from = inside.0; to = inside.1 }
 
 pub uncount-requires : goal.uncount-requires
 uncount-requires c =
-    some_of_kind (view_of c.self.inside) c.args.id c.self.inside.lists (but_lists (view_of c.self.inside) c.self.invariant.stored.book)
+    some_of_kind (view_of c.self.inside) c.args.id c.self.inside.lists
+    (but_lists (view_of c.self.inside) c.self.invariant.stored.book)
     (subst (λ (b : Book). HasAnEdge b.arena c.args.id) (sym c.self.view_is) c.requires.edge)
     (subst (λ (b : Book). IsPartOfNone b.arena c.args.id) (sym c.self.view_is) c.requires.free)
-    c.self.inside.historical c.self.inside.pending c.self.invariant.stored.historical_count c.self.invariant.stored.pending_count (mark_at c.self.inside.marks.items c.key.result)
-    (sym (λ i. set.contains (marked_in c.self.inside.marks.items) (c.key.ensures.value i)) ∙ contains-marked_in c.self.inside.marks.items c.key.result)
+    c.self.inside.historical c.self.inside.pending c.self.invariant.stored.historical_count
+    c.self.invariant.stored.pending_count (mark_at c.self.inside.marks.items c.key.result)
+    (sym (λ i. set.contains (marked_in c.self.inside.marks.items) (c.key.ensures.value i))
+    ∙ contains-marked_in c.self.inside.marks.items c.key.result)
 
-left : (c : goal.After-uncount) → LeftOver (view_of c.self.inside) c.args.id c.remove.new.self c.remove-2.new.self c.drop_id.new.self c.uncount.new.marks.items c.self.inside.historical c.self.inside.pending (mark_at c.self.inside.marks.items c.key.result)
+left : (c : goal.After-uncount) → LeftOver (view_of c.self.inside) c.args.id c.remove.new.self c.remove-2.new.self
+    c.drop_id.new.self c.uncount.new.marks.items c.self.inside.historical c.self.inside.pending
+    (mark_at c.self.inside.marks.items c.key.result)
 left c =
-    left_over_now (view_of c.self.inside) c.args.id c.key.result c.self.inside.heaps c.remove.new.self c.remove-2.new.self _ _ c.drop_id.new.self c.self.inside.marks.items c.uncount.new.marks.items _ _ (mark_at c.self.inside.marks.items c.key.result) c.self.invariant.stored
+    left_over_now (view_of c.self.inside) c.args.id c.key.result c.self.inside.heaps c.remove.new.self
+    c.remove-2.new.self _ _ c.drop_id.new.self c.self.inside.marks.items c.uncount.new.marks.items _ _
+    (mark_at c.self.inside.marks.items c.key.result) c.self.invariant.stored
     (subst (λ (b : Book). HasAnEdge b.arena c.args.id) (sym c.self.view_is) c.requires.edge)
     (subst (λ (b : Book). IsPartOfNone b.arena c.args.id) (sym c.self.view_is) c.requires.free)
-    refl c.key.ensures.value c.remove-2.ensures.removed c.left_part-left.ensures.value c.right_part-right.ensures.value c.drop_id.ensures c.remove.ensures.fits c.remove.ensures.removed
+    refl c.key.ensures.value c.remove-2.ensures.removed c.left_part-left.ensures.value c.right_part-right.ensures.value
+    c.drop_id.ensures c.remove.ensures.fits c.remove.ensures.removed
     refl c.uncount.ensures.cleared
 
 pub invariant_of-self : goal.invariant_of-self
 invariant_of-self c = record {
   stored =
-      subst (λ h. IsStored (record { arena = c.remove-2.new.self; marked = marked_in c.uncount.new.marks.items; lists = c.drop_id.new.self }) c.remove.new.self h c.uncount.new.unmarked) (sym c.uncount.ensures.marked)
-      (subst (λ p. IsStored (record { arena = c.remove-2.new.self; marked = marked_in c.uncount.new.marks.items; lists = c.drop_id.new.self }) c.remove.new.self (if mark_at c.self.inside.marks.items c.key.result then c.self.inside.historical - 1 else c.self.inside.historical) p) (sym c.uncount.ensures.unmarked)
+      subst (λ h. IsStored (record {
+        arena = c.remove-2.new.self;
+        marked = marked_in c.uncount.new.marks.items;
+        lists
+            = c.drop_id.new.self;
+      }) c.remove.new.self h c.uncount.new.unmarked) (sym c.uncount.ensures.marked)
+      (subst (λ p. IsStored (record {
+        arena = c.remove-2.new.self;
+        marked = marked_in c.uncount.new.marks.items;
+        lists
+            = c.drop_id.new.self;
+      }) c.remove.new.self
+      (if mark_at c.self.inside.marks.items c.key.result then c.self.inside.historical - 1 else
+      c.self.inside.historical) p) (sym c.uncount.ensures.unmarked)
       (left c).stored);
-  dirty = clean_forgotten (view_of c.self.inside) _ c.args.id c.self.inside.dirty c.note.new.self c.first.result c.last.result (left c).forgotten.arena (left c).forgotten.marked c.self.invariant.dirty c.note.ensures (c.first.ensures.value, c.last.ensures.value);
+  dirty = clean_forgotten (view_of c.self.inside) _ c.args.id c.self.inside.dirty c.note.new.self c.first.result
+      c.last.result (left c).forgotten.arena (left c).forgotten.marked c.self.invariant.dirty c.note.ensures
+      (c.first.ensures.value, c.last.ensures.value);
 }
 
 pub returns-clause-lawful : goal.returns-clause-lawful

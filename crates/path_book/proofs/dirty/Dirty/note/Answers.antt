@@ -2,4 +2,8 @@ use Rattle.path_book.proofs.Noted.{listed_noted}
 use Rattle.path_book.proofs.dirty.Dirty.note.Goals as goal
 
 pub invariant_of-self : goal.invariant_of-self
-invariant_of-self c = listed_noted c.self.inside.n c.self.inside.all c.self.inside.flags.items c.self.inside.pairs.items c.push.new.self.items _ c.args.x c.args.y c.place-place.result c.index.result.now c.self.invariant c.self.view_is c.requires.from c.requires.to c.place-place.ensures.is c.place-place.ensures.inside c.index.ensures c.if-index.false c.in-Ok.ensures.items
+invariant_of-self c =
+    listed_noted c.self.inside.n c.self.inside.all c.self.inside.flags.items c.self.inside.pairs.items
+    c.push.new.self.items _ c.args.x c.args.y c.place-place.result c.index.result.now c.self.invariant c.self.view_is
+    c.requires.from c.requires.to c.place-place.ensures.is c.place-place.ensures.inside c.index.ensures c.if-index.false
+    c.in-Ok.ensures.items

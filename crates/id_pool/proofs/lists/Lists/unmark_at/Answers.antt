@@ -1,0 +1,42 @@
+use Rattle.std.proofs.Common.{sym, subst, set}
+use Rattle.id_pool.specs.Lists.{Held, IsUnmarkedAt, list_at}
+use Rattle.id_pool.specs.Heads.{shape, held_of}
+use Rattle.id_pool.specs.Layout.{lists_of}
+use Rattle.id_pool.proofs.Laid.{IsWritten, laid_moved, written, placed_at, inside_heads}
+use Rattle.id_pool.proofs.lists.Lists.unmark_at.Goals as goal
+
+pub unmark_at-requires-clause-placed : goal.unmark_at-requires-clause-placed
+unmark_at-requires-clause-placed c =
+    placed_at c.self.inside.heads.items c.self.inside.blocks.ids.items c.self.inside.blocks.free c.args.list
+    c.index_mut-head.result.now c.self.invariant
+    (inside_heads c.self.inside.heads.items c.self.inside.blocks.ids.items c.args.self.now c.args.list c.self.view_is
+    c.requires.inside) c.index_mut-head.ensures.value
+
+pub invariant_of-self : goal.invariant_of-self
+invariant_of-self c =
+    laid_moved c.self.inside.heads.items c.self.inside.blocks.ids.items c.self.inside.blocks.free
+    c.unmark_at.new.blocks.ids.items c.unmark_at.new.blocks.free c.args.list c.index_mut-head.result.now
+    c.unmark_at.new.self c.self.invariant
+    (inside_heads c.self.inside.heads.items c.self.inside.blocks.ids.items c.args.self.now c.args.list c.self.view_is
+    c.requires.inside) c.index_mut-head.ensures.value c.unmark_at.ensures.moved
+
+is_written : (c : goal.After-self-1) → IsWritten c.args.self.now
+    (lists_of c.unmark_at.new.blocks.ids.items (set c.self.inside.heads.items c.args.list c.unmark_at.new.self))
+    c.args.list (held_of c.self.inside.blocks.ids.items (shape c.index_mut-head.result.now))
+    (held_of c.unmark_at.new.blocks.ids.items (shape c.unmark_at.new.self))
+is_written c =
+    written c.self.inside.heads.items c.self.inside.blocks.ids.items c.self.inside.blocks.free
+    c.unmark_at.new.blocks.ids.items c.unmark_at.new.blocks.free c.args.list c.index_mut-head.result.now
+    c.unmark_at.new.self c.args.self.now c.self.view_is c.self.invariant c.requires.inside
+    c.index_mut-head.ensures.value c.unmark_at.ensures.moved
+
+pub returns-clause-only : goal.returns-clause-only
+returns-clause-only c = (is_written c).only
+
+pub returns-clause-unmarked : goal.returns-clause-unmarked
+returns-clause-unmarked c =
+    subst (λ (h : Held). IsUnmarkedAt h (list_at
+    (lists_of c.unmark_at.new.blocks.ids.items (set c.self.inside.heads.items c.args.list c.unmark_at.new.self))
+    c.args.list) c.args.at) (sym (is_written c).before)
+    (subst (λ (h : Held). IsUnmarkedAt (held_of c.self.inside.blocks.ids.items (shape c.index_mut-head.result.now)) h
+    c.args.at) (sym (is_written c).after) c.unmark_at.ensures.unmarked)
