@@ -7,8 +7,14 @@ use Rattle.apsp_model.specs.Least.{IsLeast, HasNoWalk}
 use Rattle.apsp_model.proofs.Leasts.{least_of_vertex}
 use Rattle.version_face.specs.Entries.{EntryIs}
 
-pub itself : (g : Graph) (x y : ℕ) → x < g.vertices → x ≡ y → EntryIs g x y (Some (record { dist = 0; hops = 0; next = x }))
-itself g x y inside same = (x ∷ [], subst (λ z. IsLeast g x z (x ∷ [])) same (least_of_vertex g x inside), record { dist = refl; hops = refl; next = refl })
+pub itself : (g : Graph) (x y : ℕ) → x < g.vertices → x ≡ y
+    → EntryIs g x y (Some (record { dist = 0; hops = 0; next = x }))
+itself g x y inside same = (
+  x ∷ [],
+  subst (λ z. IsLeast g x z (x ∷ [])) same (least_of_vertex g x inside),
+  record
+      { dist = refl; hops = refl; next = refl },
+)
 
 no_edge : (g : Graph) (x z : ℕ) → g ≡ no_edges g.vertices → HasEdge g x z → ⊥
 no_edge g x z bare edge =

@@ -28,7 +28,8 @@ step zero n next x y some h = absurd (some refl)
 step (suc k) n next x y some h = record {
   inside = h.inside.0;
   place = omega (arith, mul-add-lt x n y n h.inside.0 h.to, h.size);
-  rest = subst (λ j. IsWalkLeft j n next (slice_index next (x * n + y)) y) (sym less) (record { size = h.size; to = h.to; inside = h.inside.1 });
+  rest = subst (λ j. IsWalkLeft j n next (slice_index next (x * n + y)) y) (sym less)
+      (record { size = h.size; to = h.to; inside = h.inside.1 });
   is = ap (λ j. x ∷ follow j n next (slice_index next (x * n + y)) y) (sym less);
 }
   where
@@ -41,8 +42,10 @@ pub record IsNamedStep (left n : ℕ) (next : List ℕ) (x y : ℕ) (list : List
   pub rest : IsWalkLeft (left - 1) n next (slice_index next (x * n + y)) y
   pub is : list ≡ x ∷ follow (left - 1) n next (slice_index next (x * n + y)) y
 
-pub named_step : (left n : ℕ) (next : List ℕ) (x y : ℕ) (list : List ℕ) → left ≢ 0 → IsWalkLeft left n next x y → follow left n next x y ≡ list → IsNamedStep left n next x y list
-named_step left n next x y list some h e = let s = step left n next x y some h in record { place = s.place; rest = s.rest; is = sym e ∙ s.is }
+pub named_step : (left n : ℕ) (next : List ℕ) (x y : ℕ) (list : List ℕ) → left ≢ 0 → IsWalkLeft left n next x y
+    → follow left n next x y ≡ list → IsNamedStep left n next x y list
+named_step left n next x y list some h e =
+    let s = step left n next x y some h in record { place = s.place; rest = s.rest; is = sym e ∙ s.is }
 
 -- ---- the least walk, read off the table
 
@@ -73,7 +76,8 @@ module _ (g : Graph) (dist hops next : List ℕ) (h : AreCells g (g.vertices * g
       let here : a ≡ x = some_same a x least.walk.from in
       let inside : x < g.vertices = subst (λ i. i < g.vertices) here least.walk.walk.0 in
       let cell = h.cells x y q (mul-add-lt x g.vertices y g.vertices inside q) in
-      let second : slice_index next (x * g.vertices + y) ≡ z = cell.next ∙ ap next_in (same_option g x y cell.walk (a ∷ z ∷ p) least cell.least) in
+      let second : slice_index next (x * g.vertices + y) ≡ z =
+      cell.next ∙ ap next_in (same_option g x y cell.walk (a ∷ z ∷ p) least cell.least) in
       ap (λ i. x ∷ follow (length (z ∷ p)) g.vertices next i y) second
       ∙ ap (λ r. x ∷ r) (reads z y (z ∷ p) q (rest_is_least g x y a z p least))
       ∙ ap (λ i. i ∷ z ∷ p) (sym here)
@@ -83,11 +87,13 @@ module _ (g : Graph) (dist hops next : List ℕ) (h : AreCells g (g.vertices * g
   all_inside (a ∷ []) w = (w, tt)
   all_inside (a ∷ z ∷ p) w = (w.0, all_inside (z ∷ p) w.2)
 
-  length_is : IsGraph g → (x y k : ℕ) (o : Option (List ℕ)) → LeastIs g x y o → k ≡ hops_in o → walk_length k ≡ count_of o
+  length_is : IsGraph g → (x y k : ℕ) (o : Option (List ℕ)) → LeastIs g x y o → k ≡ hops_in o
+      → walk_length k ≡ count_of o
   unfolding count_of
   length_is graph x y k None least e = ap walk_length e
   length_is graph x y k (Some p) least e =
-      let short : length p ≤ g.vertices = simple_walk_is_short g p least.walk.walk (least_is_simple g p (x, y, least)) in
+      let short : length p ≤ g.vertices =
+      simple_walk_is_short g p least.walk.walk (least_is_simple g p (x, y, least)) in
       let some : 0 < length p = length_from_first x p least.walk.from in
       let apart : k ≢ NO_HOPS = λ f. omega (arith, e, f, short, graph.most) in
       ap (λ b. if b then 0 else k + 1) (ne_eqb k NO_HOPS apart) ∙ count k (length p) e some
@@ -99,7 +105,8 @@ module _ (g : Graph) (dist hops next : List ℕ) (h : AreCells g (g.vertices * g
     pub fits : IsWalkLeft left g.vertices next x y
     pub walk : WalkIs g x y (follow left g.vertices next x y)
 
-  follows : (x y : ℕ) (o : Option (List ℕ)) → y < g.vertices → LeastIs g x y o → follow (count_of o) g.vertices next x y ≡ unwrap_or o []
+  follows : (x y : ℕ) (o : Option (List ℕ)) → y < g.vertices → LeastIs g x y o
+      → follow (count_of o) g.vertices next x y ≡ unwrap_or o []
   unfolding count_of
   follows x y None q least = refl
   follows x y (Some p) q least = reads x y p q least
@@ -108,13 +115,20 @@ module _ (g : Graph) (dist hops next : List ℕ) (h : AreCells g (g.vertices * g
   inside_of x y None least = tt
   inside_of x y (Some p) least = all_inside p least.walk.walk
 
-  pub read_walk : IsGraph g → (x y k : ℕ) → x < g.vertices → y < g.vertices → k ≡ slice_index hops (x * g.vertices + y) → IsRead x y (walk_length k)
+  pub read_walk : IsGraph g → (x y k : ℕ) → x < g.vertices → y < g.vertices → k ≡ slice_index hops (x * g.vertices + y)
+      → IsRead x y (walk_length k)
   read_walk graph x y k p q e =
       let cell = h.cells x y q (mul-add-lt x g.vertices y g.vertices p q) in
       let size : walk_length k ≡ count_of cell.walk = length_is graph x y k cell.walk cell.least (e ∙ cell.hops) in
-      let is : follow (walk_length k) g.vertices next x y ≡ unwrap_or cell.walk [] = ap (λ i. follow i g.vertices next x y) size ∙ follows x y cell.walk q cell.least in
+      let is : follow (walk_length k) g.vertices next x y ≡ unwrap_or cell.walk [] =
+      ap (λ i. follow i g.vertices next x y) size ∙ follows x y cell.walk q cell.least in
       record {
-        fits = record { size = h.next_size; to = q; inside = subst (AllByRecursion (λ z. z < g.vertices)) (sym is) (inside_of x y cell.walk cell.least) };
+        fits = record {
+          size = h.next_size;
+          to = q;
+          inside = subst (AllByRecursion (λ z. z < g.vertices)) (sym is)
+              (inside_of x y cell.walk cell.least);
+        };
         walk = record { walk = cell.walk; least = cell.least; is = is };
       }
 
@@ -123,11 +137,14 @@ pub record IsWalkRead (n left : ℕ) (f : Graph) (next : List ℕ) (x y : ℕ) :
   pub fits : IsWalkLeft left n next x y
   pub walk : WalkIs f x y (follow left n next x y)
 
-pub walk_at : (g f : Graph) (n left k x y : ℕ) (dist hops next xs : List ℕ) → g ≡ f → n ≡ g.vertices → xs ≡ next → IsGraph g → AreCells g (g.vertices * g.vertices) dist hops next → x < f.vertices → y < f.vertices → k ≡ slice_index hops (x * n + y) → left ≡ walk_length k → IsWalkRead n left f xs x y
+pub walk_at : (g f : Graph) (n left k x y : ℕ) (dist hops next xs : List ℕ) → g ≡ f → n ≡ g.vertices → xs ≡ next
+    → IsGraph g → AreCells g (g.vertices * g.vertices) dist hops next → x < f.vertices → y < f.vertices
+    → k ≡ slice_index hops (x * n + y) → left ≡ walk_length k → IsWalkRead n left f xs x y
 walk_at g f n left k x y dist hops next xs same e d graph h p q r l =
     let a : x < g.vertices = omega (arith, p, ap (λ (j : Graph). j.vertices) same) in
     let b : y < g.vertices = omega (arith, q, ap (λ (j : Graph). j.vertices) same) in
-    let read : IsRead g dist hops next h x y (walk_length k) = read_walk g dist hops next h graph x y k a b (r ∙ ap (λ j. slice_index hops (x * j + y)) e) in
+    let read : IsRead g dist hops next h x y (walk_length k) =
+    read_walk g dist hops next h graph x y k a b (r ∙ ap (λ j. slice_index hops (x * j + y)) e) in
     let made : IsWalkRead g.vertices (walk_length k) g next x y = record { fits = read.fits; walk = read.walk } in
     let P : Graph → Type 0 = λ j. IsWalkRead n left j xs x y in
     let Q : ℕ → Type 0 = λ j. IsWalkRead j left g xs x y in

@@ -10,7 +10,8 @@ use Rattle.version_pool.specs.Soundness.{IsSound, WasAnnounced, IsGranted}
 use Rattle.version_pool.proofs.Sound.{kept, kept_all, starts, rises, rises_all, some_same, get_low, get_replicate}
 
 -- an event announces at most the next number
-next_number : (s : MachineState) (e : Event) (t : MachineState) → Steps s e t → IsSound s → t.announced.number ≤ s.announced.number + 1
+next_number : (s : MachineState) (e : Event) (t : MachineState) → Steps s e t → IsSound s
+    → t.announced.number ≤ s.announced.number + 1
 next_number _ _ _ (loads s r low) h = omega arith
 next_number _ _ _ (pins s r m at free low) h = omega arith
 next_number _ _ _ (unpins s i low) h = omega arith
@@ -21,13 +22,15 @@ next_number _ _ _ (notes_one s) h = omega arith
 next_number _ _ _ (learns s i r m k there seen) h = omega arith
 
 -- every number from the first that was announced to the last was announced on the way
-pub on_the_way : (a : MachineState) (es : List Event) (s : MachineState) (n : ℕ) → Runs a es s → IsSound a → a.announced.number ≤ n → n ≤ s.announced.number → WasAnnounced a es n
+pub on_the_way : (a : MachineState) (es : List Event) (s : MachineState) (n : ℕ) → Runs a es s → IsSound a
+    → a.announced.number ≤ n → n ≤ s.announced.number → WasAnnounced a es n
 on_the_way _ _ _ n (stays s) h low high = ([], [], s, refl, stays s, omega arith)
 on_the_way _ _ _ n (goes a t s e es step rest) h low high =
     let up = next_number a e t step h in
     dite (ℕ_discrete a.announced.number n)
     (λ here. ([], e ∷ es, a, refl, stays a, here))
-    (λ other. let w = on_the_way t es s n rest (kept a e t step h) (omega arith) high in (e ∷ w.0, w.1, w.2, ap (λ (l : List Event). e ∷ l) w.3, goes a t w.2 e w.0 step w.4, w.5))
+    (λ other. let w = on_the_way t es s n rest (kept a e t step h) (omega arith) high in
+    (e ∷ w.0, w.1, w.2, ap (λ (l : List Event). e ∷ l) w.3, goes a t w.2 e w.0 step w.4, w.5))
 
 -- no event changes how many readers there are
 as_many_readers : (s : MachineState) (e : Event) (t : MachineState) → Steps s e t → length t.seen ≡ length s.seen
@@ -40,7 +43,8 @@ as_many_readers _ _ _ (announces s m is) = refl
 as_many_readers _ _ _ (notes_one s) = refl
 as_many_readers _ _ _ (learns s i r m k there seen) = length-set s.seen r _
 
-as_many_readers_all : (s : MachineState) (es : List Event) (t : MachineState) → Runs s es t → length t.seen ≡ length s.seen
+as_many_readers_all : (s : MachineState) (es : List Event) (t : MachineState) → Runs s es t
+    → length t.seen ≡ length s.seen
 as_many_readers_all _ _ _ (stays s) = refl
 as_many_readers_all _ _ _ (goes s t u e es step rest) = as_many_readers_all t es u rest ∙ as_many_readers s e t step
 
@@ -51,7 +55,8 @@ mark_at (x ∷ xs) zero low = (x, refl)
 mark_at (x ∷ xs) (suc i) low = mark_at xs i (omega arith)
 
 -- no reader has seen a number below the first
-not_below_first : (lo slots readers : ℕ) (es : List Event) (s : MachineState) (r : ℕ) (m : Mark) → 2 ≤ slots → Runs (start lo slots readers) es s → slice_get s.seen r ≡ Some m → lo ≤ m.number
+not_below_first : (lo slots readers : ℕ) (es : List Event) (s : MachineState) (r : ℕ) (m : Mark) → 2 ≤ slots
+    → Runs (start lo slots readers) es s → slice_get s.seen r ≡ Some m → lo ≤ m.number
 not_below_first lo slots readers es s r m two runs at =
     let a = start lo slots readers in
     let low = get_low s.seen r m at in
@@ -65,7 +70,8 @@ not_below_first lo slots readers es s r m two runs at =
 
 -- of a pin on the mark m whose number is the slot's content
 module _ (a s t u : MachineState) (r : ℕ) (m : Mark) (first later : List Event) where
-  granted_at : IsSound a → Runs a first s → Steps s (pin r) t → Runs t later u → slice_get s.seen r ≡ Some m → a.announced.number ≤ m.number → IsGranted a first s r m.number u
+  granted_at : IsSound a → Runs a first s → Steps s (pin r) t → Runs t later u → slice_get s.seen r ≡ Some m
+      → a.announced.number ≤ m.number → IsGranted a first s r m.number u
   granted_at h one step two seen from =
       let hs = kept_all a first s one h in
       let ht = kept s (pin r) t step hs in
@@ -93,7 +99,10 @@ same_number : (a b : ℕ) → nat_eq a b ≡ true → a ≡ b
 same_number a b e = grind (arith, nat_tests)
 
 -- a pin that was granted has the number of its reader's mark
-granted_by : (a s t u : MachineState) (r : ℕ) (e : Event) (p : MachinePin) (first later : List Event) → IsSound a → e ≡ pin r → ((m : Mark) → slice_get s.seen r ≡ Some m → a.announced.number ≤ m.number) → Runs a first s → Steps s e t → Runs t later u → slice_get t.pins (length s.pins) ≡ Some p → p.granted ≡ true → IsGranted a first s r p.number u
+granted_by : (a s t u : MachineState) (r : ℕ) (e : Event) (p : MachinePin) (first later : List Event) → IsSound a
+    → e ≡ pin r → ((m : Mark) → slice_get s.seen r ≡ Some m → a.announced.number ≤ m.number) → Runs a first s
+    → Steps s e t → Runs t later u → slice_get t.pins (length s.pins) ≡ Some p → p.granted ≡ true
+    → IsGranted a first s r p.number u
 granted_by a _ _ u r _ p first later h is from one (pins s q m at free low) two there granted =
     let new : pin_of s q m ≡ p = last_of s.pins (pin_of s q m) p there in
     let yes = ap (λ (k : MachinePin). k.granted) new ∙ granted in
@@ -131,6 +140,10 @@ granted_by a _ _ u r _ p first later h is from one (learns s i q m k b c) two th
     is_no_pin : learn i q ≡ pin r → ⊥
     is_no_pin e = cc
 
-pub law_granted : (lo slots readers r : ℕ) (first later : List Event) (s t u : MachineState) (p : MachinePin) → 2 ≤ slots → Runs (start lo slots readers) first s → Steps s (pin r) t → Runs t later u → slice_get t.pins (length s.pins) ≡ Some p → p.granted ≡ true → IsGranted (start lo slots readers) first s r p.number u
+pub law_granted : (lo slots readers r : ℕ) (first later : List Event) (s t u : MachineState) (p : MachinePin)
+    → 2 ≤ slots → Runs (start lo slots readers) first s → Steps s (pin r) t → Runs t later u
+    → slice_get t.pins (length s.pins) ≡ Some p → p.granted ≡ true
+    → IsGranted (start lo slots readers) first s r p.number u
 law_granted lo slots readers r first later s t u p many one step two there granted =
-    granted_by (start lo slots readers) s t u r (pin r) p first later (starts lo slots readers many) refl (λ m at. not_below_first lo slots readers first s r m many one at) one step two there granted
+    granted_by (start lo slots readers) s t u r (pin r) p first later (starts lo slots readers many) refl
+    (λ m at. not_below_first lo slots readers first s r m many one at) one step two there granted

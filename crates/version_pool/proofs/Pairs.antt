@@ -21,15 +21,22 @@ ends_alone g x y (a ∷ b ∷ []) apart walk short =
 ends_alone g x y (a ∷ b ∷ c ∷ p) apart walk short = absurd (omega arith)
 
 -- where there is a walk between two different vertices, it is their edge
-edge_is_least : (g : Graph) (x y : ℕ) (q : List ℕ) → g.vertices ≡ 2 → x ≢ y → IsWalkFrom g x y q → IsLeast g x y (x ∷ y ∷ [])
+edge_is_least : (g : Graph) (x y : ℕ) (q : List ℕ) → g.vertices ≡ 2 → x ≢ y → IsWalkFrom g x y q
+    → IsLeast g x y (x ∷ y ∷ [])
 edge_is_least g x y q two apart walk =
     let least = least_exists g x y q walk in
-    let short : length least.0 ≤ g.vertices = simple_walk_is_short g least.0 least.1.walk.walk (least_is_simple g least.0 (x, y, least.1)) in
+    let short : length least.0 ≤ g.vertices =
+    simple_walk_is_short g least.0 least.1.walk.walk (least_is_simple g least.0 (x, y, least.1)) in
     subst (IsLeast g x y) (ends_alone g x y least.0 apart least.1.walk (omega (arith, short, two))) least.1
 
-pub itself : (g : Graph) (x y : ℕ) → x < g.vertices → x ≡ y → EntryIs g x y (Some (record { dist = 0; hops = 0; next = x }))
-itself g x y inside same =
-    (x ∷ [], subst (λ z. IsLeast g x z (x ∷ [])) same (least_of_vertex g x inside), record { dist = refl; hops = refl; next = refl })
+pub itself : (g : Graph) (x y : ℕ) → x < g.vertices → x ≡ y
+    → EntryIs g x y (Some (record { dist = 0; hops = 0; next = x }))
+itself g x y inside same = (
+  x ∷ [],
+  subst (λ z. IsLeast g x z (x ∷ [])) same (least_of_vertex g x inside),
+  record
+      { dist = refl; hops = refl; next = refl },
+)
 
 pub edge : (g : Graph) (x y w : ℕ) → g.vertices ≡ 2 → x < g.vertices → y < g.vertices → x ≢ y → weight_at g x y ≡ Some w
     → EntryIs g x y (Some (record { dist = w; hops = 1; next = y }))

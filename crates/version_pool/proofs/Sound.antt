@@ -21,7 +21,8 @@ module _ {A : Type 0} where
   get_snoc (x ∷ xs) a b zero e = inl e
   get_snoc (x ∷ xs) a b (suc j) e = get_snoc xs a b j e
 
-  get_remove : (l : List A) (i j : ℕ) (b : A) → slice_get (without_at l i) j ≡ Some b → (k : ℕ) × (slice_get l k ≡ Some b)
+  get_remove : (l : List A) (i j : ℕ) (b : A) → slice_get (without_at l i) j ≡ Some b → (k : ℕ)
+      × (slice_get l k ≡ Some b)
   get_remove [] i j b e = (j, e)
   get_remove (x ∷ xs) zero j b e = (suc j, e)
   get_remove (x ∷ xs) (suc i) zero b e = (zero, e)
@@ -44,7 +45,8 @@ kept _ _ _ (loads s r low) h = record {
   announced = h.announced;
   ready = h.ready;
   contents = h.contents;
-  seen = λ q m at. ⊎_elim (λ is. let n = ap (λ (k : Mark). k.number) is in omega arith) (λ old. h.seen q m old) (get_set s.seen r q s.announced m at);
+  seen = λ q m at. ⊎_elim (λ is. let n = ap (λ (k : Mark). k.number) is in omega arith) (λ old. h.seen q m old)
+      (get_set s.seen r q s.announced m at);
   notes = h.notes;
 }
 kept _ _ _ (pins s r m at free low) h = record {
@@ -53,14 +55,16 @@ kept _ _ _ (pins s r m at free low) h = record {
     c.0,
     (λ i p there. ⊎_elim
         (λ old. c.1 i p old)
-        (λ new. λ same. let slots = ap (λ (q : MachinePin). q.slot) new in free (is ∙ ap (λ (n : ℕ). Some n) (sym same ∙ sym slots)))
+        (λ new. λ same. let slots = ap (λ (q : MachinePin). q.slot) new in
+        free (is ∙ ap (λ (n : ℕ). Some n) (sym same ∙ sym slots)))
         (get_snoc s.pins _ p i there)),
     c.2,
     c.3,
   );
   pinned = λ i p there. ⊎_elim
       (λ old. h.pinned i p old)
-      (λ new. subst (λ (q : MachinePin). (q.slot < length s.contents) × (q.number ≡ get_or s.contents q.slot 0)) new (low, refl))
+      (λ new. subst (λ (q : MachinePin). (q.slot < length s.contents) × (q.number ≡ get_or s.contents q.slot 0)) new
+      (low, refl))
       (get_snoc s.pins _ p i there);
   announced = h.announced;
   ready = h.ready;
@@ -70,7 +74,9 @@ kept _ _ _ (pins s r m at free low) h = record {
 }
 kept _ _ _ (unpins s i low) h = record {
   room = h.room;
-  claimed = λ slot is. let c = h.claimed slot is in (c.0, (λ j p there. let o = get_remove s.pins i j p there in c.1 o.0 p o.1), c.2, c.3);
+  claimed =
+      λ slot is. let c = h.claimed slot is in
+      (c.0, (λ j p there. let o = get_remove s.pins i j p there in c.1 o.0 p o.1), c.2, c.3);
   pinned = λ j p there. let o = get_remove s.pins i j p there in h.pinned o.0 p o.1;
   announced = h.announced;
   ready = h.ready;
@@ -80,7 +86,10 @@ kept _ _ _ (unpins s i low) h = record {
 }
 kept _ _ _ (claims s slot low none_claimed none_ready free apart) h = record {
   room = h.room;
-  claimed = λ k is. let same : slot ≡ k = cc in subst (λ (n : ℕ). (n < length s.contents) × IsUnpinned s n × (n ≢ s.announced.slot) × (s.ready ≡ None)) same (low, free, apart, none_ready);
+  claimed =
+      λ k is. let same : slot ≡ k = cc in
+      subst (λ (n : ℕ). (n < length s.contents) × IsUnpinned s n × (n ≢ s.announced.slot) × (s.ready ≡ None)) same
+      (low, free, apart, none_ready);
   pinned = h.pinned;
   announced = h.announced;
   ready = h.ready;
@@ -96,12 +105,19 @@ kept _ _ _ (puts s slot is) h =
     let here : get_or (set s.contents slot n) slot 0 ≡ n = get_or-set_same s.contents slot n 0 low in record {
       room = let r = h.room in omega arith;
       claimed = λ k bad. absurd (none_some k bad);
-      pinned = λ i p there. let o = h.pinned i p there in let low_p = o.0 in (omega arith, o.1 ∙ sym (get_or-set_other s.contents slot p.slot n 0 (c.1 i p there)));
+      pinned = λ i p there. let o =
+          h.pinned i p there in let low_p = o.0 in
+          (omega arith, o.1 ∙ sym (get_or-set_other s.contents slot p.slot n 0 (c.1 i p there)));
       announced = get_or-set_other s.contents slot s.announced.slot n 0 (λ e. c.2 (sym e)) ∙ h.announced;
       ready = λ m e. let same : record { number = n; slot = slot } ≡ m = some_same _ m e in
-          subst (λ (q : Mark). (q.slot < length (set s.contents slot n)) × (q.number ≡ s.announced.number + 1) × (get_or (set s.contents slot n) q.slot 0 ≡ q.number) × (q.slot ≢ s.announced.slot)) same (omega arith, refl, here, c.2);
+          subst (λ (q : Mark). (q.slot < length (set s.contents slot n)) × (q.number ≡ s.announced.number + 1)
+          × (get_or (set s.contents slot n) q.slot 0 ≡ q.number) × (q.slot ≢ s.announced.slot)) same
+          (omega arith, refl, here, c.2);
       contents = λ k low_k. dite (ℕ_discrete k slot)
-          (λ same. inr (λ i. Some (record { number = (sym here ∙ ap (λ (j : ℕ). get_or (set s.contents slot n) j 0) (sym same)) i; slot = sym same i })))
+          (λ same. inr (λ i. Some (record {
+            number = (sym here ∙ ap (λ (j : ℕ). get_or (set s.contents slot n) j 0) (sym same)) i;
+            slot = sym same i;
+          })))
           (λ other.
           let e = get_or-set_other s.contents slot k n 0 other in
           ⊎_elim (λ le. inl (omega arith)) (λ bad. absurd (none_some _ (sym c.3 ∙ bad))) (h.contents k (omega arith)));
@@ -116,7 +132,10 @@ kept _ _ _ (announces s m is) h =
       pinned = h.pinned;
       announced = r.2;
       ready = λ k bad. absurd (none_some k bad);
-      contents = λ k low. ⊎_elim (λ le. inl (omega arith)) (λ e. let same = some_same _ m (sym e ∙ is) in let n = ap (λ (q : Mark). q.number) same in inl (omega arith)) (h.contents k low);
+      contents =
+          λ k low. ⊎_elim (λ le. inl (omega arith))
+          (λ e. let same = some_same _ m (sym e ∙ is) in let n = ap (λ (q : Mark). q.number) same in inl (omega arith))
+          (h.contents k low);
       seen = λ q k at. let le = h.seen q k at in omega arith;
       notes = λ i k at. let le = h.notes i k at in omega arith;
     }
@@ -128,7 +147,8 @@ kept _ _ _ (notes_one s) h = record {
   ready = h.ready;
   contents = h.contents;
   seen = h.seen;
-  notes = λ i m there. ⊎_elim (λ old. h.notes i m old) (λ new. let n = ap (λ (k : Mark). k.number) new in omega arith) (get_snoc s.notes s.announced m i there);
+  notes = λ i m there. ⊎_elim (λ old. h.notes i m old) (λ new. let n = ap (λ (k : Mark). k.number) new in omega arith)
+      (get_snoc s.notes s.announced m i there);
 }
 kept _ _ _ (learns s i r m k there seen) h = record {
   room = h.room;
@@ -137,7 +157,9 @@ kept _ _ _ (learns s i r m k there seen) h = record {
   announced = h.announced;
   ready = h.ready;
   contents = h.contents;
-  seen = λ q x at. ⊎_elim (λ is. let n = ap (λ (z : Mark). z.number) is in let l = later_below k m s.announced.number (h.seen r k seen) (h.notes i m there) in omega arith) (λ old. h.seen q x old) (get_set s.seen r q (later_of k m) x at);
+  seen = λ q x at. ⊎_elim (λ is. let n = ap (λ (z : Mark). z.number) is in
+      let l = later_below k m s.announced.number (h.seen r k seen) (h.notes i m there) in omega arith)
+      (λ old. h.seen q x old) (get_set s.seen r q (later_of k m) x at);
   notes = λ j x at. let o = get_remove s.notes i j x at in h.notes o.0 x o.1;
 }
 
@@ -163,8 +185,10 @@ starts lo slots readers two =
       notes = λ i m bad. absurd (none_some m bad);
     }
 
-pub law_sound : (lo slots readers : ℕ) (events : List Event) (s : MachineState) → 2 ≤ slots → Runs (start lo slots readers) events s → IsSound s
-law_sound lo slots readers events s two runs = kept_all (start lo slots readers) events s runs (starts lo slots readers two)
+pub law_sound : (lo slots readers : ℕ) (events : List Event) (s : MachineState) → 2 ≤ slots
+    → Runs (start lo slots readers) events s → IsSound s
+law_sound lo slots readers events s two runs =
+    kept_all (start lo slots readers) events s runs (starts lo slots readers two)
 
 get_here : {A : Type 0} (l : List A) (i : ℕ) (a : A) → i < length l → slice_get (set l i a) i ≡ Some a
 get_here [] i a low = absurd (omega arith)
@@ -187,10 +211,13 @@ later_above : (a b : Mark) → a.number ≤ (later_of a b).number
 later_above a b = grind arith
 
 -- a reader whose mark becomes one with a number that is no less
-raised : (seen : List Mark) (r : ℕ) (k new : Mark) → slice_get seen r ≡ Some k → k.number ≤ new.number → (q : ℕ) (m : Mark) → slice_get seen q ≡ Some m → (x : Mark) × (slice_get (set seen r new) q ≡ Some x) × (m.number ≤ x.number)
+raised : (seen : List Mark) (r : ℕ) (k new : Mark) → slice_get seen r ≡ Some k → k.number ≤ new.number
+    → (q : ℕ) (m : Mark) → slice_get seen q ≡ Some m → (x : Mark) × (slice_get (set seen r new) q ≡ Some x)
+    × (m.number ≤ x.number)
 raised seen r k new is up q m at = dite (ℕ_discrete q r)
     (λ same.
-    let here : slice_get (set seen r new) q ≡ Some new = ap (λ (j : ℕ). slice_get (set seen r new) j) same ∙ get_here seen r new (get_low seen r k is) in
+    let here : slice_get (set seen r new) q ≡ Some new =
+    ap (λ (j : ℕ). slice_get (set seen r new) j) same ∙ get_here seen r new (get_low seen r k is) in
     let one : k ≡ m = some_same k m (sym is ∙ (ap (λ (j : ℕ). slice_get seen j) (sym same) ∙ at)) in
     let n = ap (λ (z : Mark). z.number) one in
     (new, here, omega arith))
@@ -200,26 +227,38 @@ pub rises : (s : MachineState) (e : Event) (t : MachineState) → Steps s e t �
 rises _ _ _ (loads s r low) h = record {
   announced = omega arith;
   seen = λ q m at. dite (ℕ_discrete q r)
-      (λ same. let le = h.seen q m at in (s.announced, ap (λ (j : ℕ). slice_get (set s.seen r s.announced) j) same ∙ get_here s.seen r s.announced low, le))
+      (λ same. let le = h.seen q m at in (
+        s.announced,
+        ap (λ (j : ℕ). slice_get (set s.seen r s.announced) j) same
+            ∙ get_here s.seen r s.announced low,
+        le,
+      ))
       (λ other. (m, get_else s.seen r q s.announced other ∙ at, omega arith));
 }
 rises _ _ _ (pins s r m at free low) h = record { announced = omega arith; seen = λ q k there. (k, there, omega arith) }
 rises _ _ _ (unpins s i low) h = record { announced = omega arith; seen = λ q k there. (k, there, omega arith) }
-rises _ _ _ (claims s slot low a b c d) h = record { announced = omega arith; seen = λ q k there. (k, there, omega arith) }
+rises _ _ _ (claims s slot low a b c d) h =
+    record { announced = omega arith; seen = λ q k there. (k, there, omega arith) }
 rises _ _ _ (puts s slot is) h = record { announced = omega arith; seen = λ q k there. (k, there, omega arith) }
-rises _ _ _ (announces s m is) h = record { announced = (let n = (h.ready m is).1 in omega arith); seen = λ q k there. (k, there, omega arith) }
+rises _ _ _ (announces s m is) h =
+    record { announced = (let n = (h.ready m is).1 in omega arith); seen = λ q k there. (k, there, omega arith) }
 rises _ _ _ (notes_one s) h = record { announced = omega arith; seen = λ q k there. (k, there, omega arith) }
-rises _ _ _ (learns s i r m k there seen) h = record { announced = omega arith; seen = raised s.seen r k (later_of k m) seen (later_above k m) }
+rises _ _ _ (learns s i r m k there seen) h =
+    record { announced = omega arith; seen = raised s.seen r k (later_of k m) seen (later_above k m) }
 
 rises_on : (s t u : MachineState) → Rises s t → Rises t u → Rises s u
 rises_on s t u one two = record {
   announced = let a = one.announced in let b = two.announced in omega arith;
-  seen = λ r m at. let x = one.seen r m at in let y = two.seen r x.0 x.1 in let a = x.2 in let b = y.2 in (y.0, y.1, omega arith);
+  seen = λ r m at. let x =
+      one.seen r m at in let y = two.seen r x.0 x.1 in let a = x.2 in let b = y.2 in (y.0, y.1, omega arith);
 }
 
 pub rises_all : (s : MachineState) (es : List Event) (t : MachineState) → Runs s es t → IsSound s → Rises s t
 rises_all _ _ _ (stays s) h = record { announced = omega arith; seen = λ r m at. (m, at, omega arith) }
-rises_all _ _ _ (goes s t u e es step rest) h = rises_on s t u (rises s e t step h) (rises_all t es u rest (kept s e t step h))
+rises_all _ _ _ (goes s t u e es step rest) h =
+    rises_on s t u (rises s e t step h) (rises_all t es u rest (kept s e t step h))
 
-pub law_rises : (lo slots readers : ℕ) (first later : List Event) (s t : MachineState) → 2 ≤ slots → Runs (start lo slots readers) first s → Runs s later t → Rises s t
-law_rises lo slots readers first later s t two one rest = rises_all s later t rest (law_sound lo slots readers first s two one)
+pub law_rises : (lo slots readers : ℕ) (first later : List Event) (s t : MachineState) → 2 ≤ slots
+    → Runs (start lo slots readers) first s → Runs s later t → Rises s t
+law_rises lo slots readers first later s t two one rest =
+    rises_all s later t rest (law_sound lo slots readers first s two one)

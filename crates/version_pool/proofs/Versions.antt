@@ -1,4 +1,5 @@
--- The versions of a plan, how many vertices they have, and the one behind each: for `Pool::new`, `Publisher::publish` and
+-- The versions of a plan, how many vertices they have, and the one behind each: for `Pool::new`, `Publisher::publish`
+-- and
 -- the tests.
 use Rattle.std.specs.Prelude.{◌≡◌, ℕ, zero, suc, ◌+◌, ◌-◌, ◌<◌, List, [], ◌∷◌, take, Some, slice_get, refl}
 use Rattle.std.proofs.Common.{sym, ◌∙◌, ap, subst, arith}
@@ -34,5 +35,7 @@ next_version p k g s is more at =
     let there : slice_get p.stars (k - p.lo) ≡ Some s = ap (slice_get p.stars) (sym place) ∙ at in record {
       from_lo = omega (arith, low);
       to_hi = omega (arith, more);
-      graph = ap (λ h. star_of h s) is.graph ∙ (sym (one_more p.start p.stars (k - p.lo) s there) ∙ ap (λ (n : ℕ). graph_after p.start (take n p.stars)) (sym count));
+      graph = ap (λ h. star_of h s) is.graph
+          ∙ (sym (one_more p.start p.stars (k - p.lo) s there)
+          ∙ ap (λ (n : ℕ). graph_after p.start (take n p.stars)) (sym count));
     }

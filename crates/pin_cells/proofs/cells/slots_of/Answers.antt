@@ -10,5 +10,6 @@ loop-preserved c =
     let of_plan = λ (p : Plan). IsVersionOf p v.number v.graph in (
       omega (arith, h.len, c.loop.invariant.0),
       subst of_plan c.new-slot.ensures c.filled-spare.ensures,
-      rw h.items (All-push (λ tag. tag ≡ c.args.plan.now) c.loop.slots.items c.new-slot.result c.loop.invariant.2 c.new-slot.ensures),
+      rw h.items (All-push (λ tag. tag ≡ c.args.plan.now) c.loop.slots.items c.new-slot.result c.loop.invariant.2
+          c.new-slot.ensures),
     )
