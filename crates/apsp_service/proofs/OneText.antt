@@ -4,7 +4,7 @@ use Rattle.std.specs.Prelude.{Bool, false, Option, Some, None, Result, Ok, Err}
 use Rattle.apsp_model.specs.Graph.{Graph}
 use Rattle.apsp_model.specs.Walk.{weight_of}
 use Rattle.apsp_model.specs.Least.{LeastIs}
-use Rattle.apsp_model.specs.Command.{Command, Step, Star_step, graph_of, steps_of}
+use Rattle.apsp_model.specs.Command.{Command, Step, Star_step, Grow_step, Mend_step, graph_of, steps_of}
 use Rattle.apsp_model.specs.Kept.{opening as opened, after_steps, IsKept, HasBirth}
 use Rattle.apsp_model.proofs.Leasts.{least_unique}
 use Rattle.fixup_math.proofs.Uniques.{birth_unique, counts_unique}
@@ -38,9 +38,11 @@ one_distance : (g : Graph) (x y : ℕ) (d e : Option ℕ) → IsDistance g x y d
 one_distance g x y None None h k = refl
 one_distance g x y None (Some e) h k = absurd (h k.0 k.1.walk)
 one_distance g x y (Some d) None h k = absurd (k h.0 h.1.walk)
-one_distance g x y (Some d) (Some e) h k = ap Some (h.2 ∙ ap (λ p. weight_of g p) (least_unique g x y h.0 k.0 h.1 k.1) ∙ sym k.2)
+one_distance g x y (Some d) (Some e) h k =
+    ap Some (h.2 ∙ ap (λ p. weight_of g p) (least_unique g x y h.0 k.0 h.1 k.1) ∙ sym k.2)
 
-same_entries : (xs ys : List (Option ℕ)) → length xs ≡ length ys → ((k : ℕ) → k < length xs → get_or xs k None ≡ get_or ys k None) → xs ≡ ys
+same_entries : (xs ys : List (Option ℕ)) → length xs ≡ length ys
+    → ((k : ℕ) → k < length xs → get_or xs k None ≡ get_or ys k None) → xs ≡ ys
 same_entries [] [] size each = refl
 same_entries [] (y ∷ ys) size each = absurd (omega (arith, size))
 same_entries (x ∷ xs) [] size each = absurd (omega (arith, size))
@@ -49,7 +51,8 @@ same_entries (x ∷ xs) (y ∷ ys) size each =
     let others : xs ≡ ys = same_entries xs ys (omega (arith, size)) (λ k l. each (suc k) (omega (arith, l))) in
     λ i. first i ∷ others i
 
-one_row : (g : Graph) (x : ℕ) (row other : List (Option ℕ)) → AreDistances g x row → AreDistances g x other → row ≡ other
+one_row : (g : Graph) (x : ℕ) (row other : List (Option ℕ)) → AreDistances g x row → AreDistances g x other
+    → row ≡ other
 one_row g x row other h k = same_entries row other (h.size ∙ sym k.size) (λ y l.
     let inside : y < g.vertices = omega (arith, l, h.size) in
     one_distance g x y (get_or row y None) (get_or other y None) (h.each y inside) (k.each y inside))
@@ -62,15 +65,20 @@ one_walk g x y (Some p) (Some q) h k = ap Some (least_unique g x y p q h k)
 
 -- ---- births
 
-kept_after : (n : ℕ) (steps : List Step) (p : List ℕ) (b : ℕ) → (after_steps (opened n) steps).birth p b → (after_steps (opened n) steps).kept p
+kept_after : (n : ℕ) (steps : List Step) (p : List ℕ) (b : ℕ) → (after_steps (opened n) steps).birth p b
+    → (after_steps (opened n) steps).kept p
 kept_after n [] p b h = h.0
 kept_after n (Star_step v g ∷ earlier) p b h = h.0
+kept_after n (Grow_step g ∷ earlier) p b h = h.0
+kept_after n (Mend_step g ∷ earlier) p b h = h.0
 
 -- a list that has a birth is kept
-born_kept : (n : ℕ) (smooth : Bool) (commands : List Command) (p : List ℕ) (b : ℕ) → HasBirth n smooth commands p b → IsKept n smooth commands p
+born_kept : (n : ℕ) (smooth : Bool) (commands : List Command) (p : List ℕ) (b : ℕ) → HasBirth n smooth commands p b
+    → IsKept n smooth commands p
 born_kept n smooth commands p b h = kept_after n (steps_of n smooth commands) p b h
 
-one_birth : (n : ℕ) (smooth : Bool) (commands : List Command) (p : List ℕ) (b c : Option ℕ) → IsBirth n smooth commands p b → IsBirth n smooth commands p c → b ≡ c
+one_birth : (n : ℕ) (smooth : Bool) (commands : List Command) (p : List ℕ) (b c : Option ℕ)
+    → IsBirth n smooth commands p b → IsBirth n smooth commands p c → b ≡ c
 one_birth n smooth commands p None None h k = refl
 one_birth n smooth commands p None (Some c) h k = absurd (h (born_kept n smooth commands p c k))
 one_birth n smooth commands p (Some b) None h k = absurd (k (born_kept n smooth commands p b h))
@@ -78,24 +86,32 @@ one_birth n smooth commands p (Some b) (Some c) h k = ap Some (birth_unique n sm
 
 -- ---- replies
 
-one_reply : (n : ℕ) (smooth : Bool) (commands : List Command) (l : Line) (t u : List ℕ) → HasReply n smooth commands l t → HasReply n smooth commands l u → t ≡ u
+one_reply : (n : ℕ) (smooth : Bool) (commands : List Command) (l : Line) (t u : List ℕ) → HasReply n smooth commands l t
+    → HasReply n smooth commands l u → t ≡ u
 one_reply n smooth commands line.Nothing t u h k = h ∙ sym k
 one_reply n smooth commands (line.Vertices m) t u h k = h ∙ sym k
 one_reply n smooth commands (line.Star star) t u h k = h ∙ sym k
 one_reply n smooth commands (line.Edge a b w) t u h k = h ∙ sym k
 one_reply n smooth commands (line.Cut a b) t u h k = h ∙ sym k
-one_reply n smooth commands (line.Dist x y) t u h k = h.2 ∙ ap (λ d. dist_text x y d) (one_distance (graph_of n commands) x y h.0 k.0 h.1 k.1) ∙ sym k.2
-one_reply n smooth commands (line.Path x y) t u h k = h.2 ∙ ap (λ p. path_text (graph_of n commands) x y p) (one_walk (graph_of n commands) x y h.0 k.0 h.1 k.1) ∙ sym k.2
-one_reply n smooth commands (line.Row x) t u h k = h.2 ∙ ap (λ row. row_text x row) (one_row (graph_of n commands) x h.0 k.0 h.1 k.1) ∙ sym k.2
+one_reply n smooth commands (line.Dist x y) t u h k =
+    h.2 ∙ ap (λ d. dist_text x y d) (one_distance (graph_of n commands) x y h.0 k.0 h.1 k.1) ∙ sym k.2
+one_reply n smooth commands (line.Path x y) t u h k =
+    h.2 ∙ ap (λ p. path_text (graph_of n commands) x y p) (one_walk (graph_of n commands) x y h.0 k.0 h.1 k.1) ∙ sym k.2
+one_reply n smooth commands (line.Row x) t u h k =
+    h.2 ∙ ap (λ row. row_text x row) (one_row (graph_of n commands) x h.0 k.0 h.1 k.1) ∙ sym k.2
 one_reply n smooth commands line.Block t u h k = h ∙ sym k
 one_reply n smooth commands (line.Ask x y since) t u h k = h ∙ sym k
 one_reply n smooth commands line.End t u h k = h ∙ sym k
-one_reply n smooth commands line.Stats t u h k = h.2 ∙ ap stats_text (counts_unique n smooth commands h.0 k.0 h.1 k.1) ∙ sym k.2
-one_reply n smooth commands (line.Age list) t u h k = h.2 ∙ ap (λ b. age_text list b) (one_birth n smooth commands list h.0 k.0 h.1 k.1) ∙ sym k.2
-one_reply n smooth commands line.Cert t u h k = h.2 ∙ ap text_of (one_stated_of (version_after n commands) h.0 k.0 h.1 k.1) ∙ sym k.2
+one_reply n smooth commands line.Stats t u h k =
+    h.2 ∙ ap stats_text (counts_unique n smooth commands h.0 k.0 h.1 k.1) ∙ sym k.2
+one_reply n smooth commands (line.Age list) t u h k =
+    h.2 ∙ ap (λ b. age_text list b) (one_birth n smooth commands list h.0 k.0 h.1 k.1) ∙ sym k.2
+one_reply n smooth commands line.Cert t u h k =
+    h.2 ∙ ap text_of (one_stated_of (version_after n commands) h.0 k.0 h.1 k.1) ∙ sym k.2
 
 -- without blocks
-one_line_reply : (s : State) (l : Line) (t u : List ℕ) → s.readers ≡ None → HasLineReply s l t → HasLineReply s l u → t ≡ u
+one_line_reply : (s : State) (l : Line) (t u : List ℕ) → s.readers ≡ None → HasLineReply s l t → HasLineReply s l u
+    → t ≡ u
 one_line_reply s line.End t u none h k =
     let F : Option ℕ → Type 0 = λ r. HasBlockReply r s.block t in
     let G : Option ℕ → Type 0 = λ r. HasBlockReply r s.block u in
@@ -112,9 +128,11 @@ one_line_reply s line.Stats t u none h k = one_reply s.vertices s.smooth s.comma
 one_line_reply s (line.Age list) t u none h k = one_reply s.vertices s.smooth s.commands (line.Age list) t u h k
 one_line_reply s line.Cert t u none h k = one_reply s.vertices s.smooth s.commands line.Cert t u h k
 one_line_reply s line.Block t u none h k = one_reply s.vertices s.smooth s.commands line.Block t u h k
-one_line_reply s (line.Ask x y since) t u none h k = one_reply s.vertices s.smooth s.commands (line.Ask x y since) t u h k
+one_line_reply s (line.Ask x y since) t u none h k =
+    one_reply s.vertices s.smooth s.commands (line.Ask x y since) t u h k
 
-one_answer : (s : State) (read : Result Line Refusal) (t u : List ℕ) → s.readers ≡ None → HasAnswer s read t → HasAnswer s read u → t ≡ u
+one_answer : (s : State) (read : Result Line Refusal) (t u : List ℕ) → s.readers ≡ None → HasAnswer s read t
+    → HasAnswer s read u → t ≡ u
 one_answer s (Ok l) t u none h k = one_line_reply s l t u none h k
 one_answer s (Err refusal) t u none h k = h ∙ sym k
 
@@ -158,7 +176,8 @@ line_readers s bytes = at (line_of (context_of s) bytes)
     at (Ok l) = accepted_readers (counted s) l
     at (Err refusal) = refl
 
-replies_are : (s : State) (lines : List (List ℕ)) (t u : List ℕ) → s.readers ≡ None → HaveReplies s lines t → HaveReplies s lines u → t ≡ u
+replies_are : (s : State) (lines : List (List ℕ)) (t u : List ℕ) → s.readers ≡ None → HaveReplies s lines t
+    → HaveReplies s lines u → t ≡ u
 replies_are s [] t u none h k = h ∙ sym k
 replies_are s (bytes ∷ lines) t u none h k =
     let first : h.0 ≡ k.0 = one_answer s (line_of (context_of s) bytes) h.0 k.0 none h.2 k.2 in
@@ -170,8 +189,10 @@ replies_are s (bytes ∷ lines) t u none h k =
 some_text : (s : State) (lines : List (List ℕ)) → IsLawfulState s → (t : List ℕ) × HaveAllReplies s lines t
 some_text s lines h = let r = replies_exist s lines h in (r.0 ++ ending_of (after_lines s lines), (r.0, r.1, refl))
 
-all_replies_are : (s : State) (lines : List (List ℕ)) (t u : List ℕ) → s.readers ≡ None → HaveAllReplies s lines t → HaveAllReplies s lines u → t ≡ u
-all_replies_are s lines t u none h k = h.2 ∙ ap (λ r. r ++ ending_of (after_lines s lines)) (replies_are s lines h.0 k.0 none h.1 k.1) ∙ sym k.2
+all_replies_are : (s : State) (lines : List (List ℕ)) (t u : List ℕ) → s.readers ≡ None → HaveAllReplies s lines t
+    → HaveAllReplies s lines u → t ≡ u
+all_replies_are s lines t u none h k =
+    h.2 ∙ ap (λ r. r ++ ending_of (after_lines s lines)) (replies_are s lines h.0 k.0 none h.1 k.1) ∙ sym k.2
 
 -- a session over lines has a text and one status, and one text where there are no blocks
 record HasOne (start : State) (bytes : List ℕ) : Type 0 where
@@ -191,14 +212,32 @@ one_over start bytes h =
 pub one_text : (m : Mode) (bytes : List ℕ) → has_blocks m ≡ false → HasOneText m bytes
 one_text (mode.Run workers smooth) bytes none =
     let one = one_over (first_state None smooth) bytes (opening_lawful None smooth) in
-    record { text = one.text; status = _; session = one.session; only = λ other ended k. (one.only refl other ended k, k.1) }
+    record {
+      text = one.text;
+      status = _;
+      session = one.session;
+      only = λ other ended k.
+          (one.only refl other ended k, k.1);
+    }
 one_text (mode.Live workers readers slots smooth) bytes none = cc
 one_text mode.Check bytes none =
     let c = checked_exists bytes in
-    record { text = c.0; status = c.1; session = c.2; only = λ other ended h. one_checked bytes other c.0 ended c.1 h c.2 }
+    record {
+      text = c.0;
+      status = c.1;
+      session = c.2;
+      only = λ other ended h. one_checked bytes other c.0 ended c.1 h
+          c.2;
+    }
 one_text (mode.Load n seed workers) bytes none =
     let c = load_exists n seed in
-    record { text = c.0; status = 0; session = (c.1, refl); only = λ other ended h. (one_load n seed other c.0 h.0 c.1, h.1) }
+    record {
+      text = c.0;
+      status = 0;
+      session = (c.1, refl);
+      only = λ other ended h.
+          (one_load n seed other c.0 h.0 c.1, h.1);
+    }
 
 pub one_status : (m : Mode) (bytes : List ℕ) → HasOneStatus m bytes
 one_status (mode.Run workers smooth) bytes =
@@ -209,7 +248,13 @@ one_status (mode.Live workers readers slots smooth) bytes =
     record { text = one.text; status = _; session = one.session; only = λ other ended k. k.1 }
 one_status mode.Check bytes =
     let c = checked_exists bytes in
-    record { text = c.0; status = c.1; session = c.2; only = λ other ended h. (one_checked bytes other c.0 ended c.1 h c.2).1 }
+    record {
+      text = c.0;
+      status = c.1;
+      session = c.2;
+      only = λ other ended h.
+          (one_checked bytes other c.0 ended c.1 h c.2).1;
+    }
 one_status (mode.Load n seed workers) bytes =
     let c = load_exists n seed in
     record { text = c.0; status = 0; session = (c.1, refl); only = λ other ended h. h.1 }

@@ -19,21 +19,25 @@ use Rattle.apsp_service.proofs.Lines.{whole_lines_is}
 
 -- ---- what was taken, where the source tells
 
-taken_is : (xs : List ℕ) (left_now : Option (List ℕ)) (bytes : List ℕ) → Consumes (Some xs) left_now bytes → (ys : List ℕ) × (left_now ≡ Some ys) × (xs ≡ bytes ++ ys)
+taken_is : (xs : List ℕ) (left_now : Option (List ℕ)) (bytes : List ℕ) → Consumes (Some xs) left_now bytes
+    → (ys : List ℕ) × (left_now ≡ Some ys) × (xs ≡ bytes ++ ys)
 taken_is xs None bytes h = absurd h
 taken_is xs (Some ys) bytes h = (ys, refl, h)
 
-took_few : (n : ℕ) (left left_now : Option (List ℕ)) (bytes : List ℕ) → Consumes left left_now bytes → length bytes ≤ n → TookMoreThan n left left_now → ⊥
+took_few : (n : ℕ) (left left_now : Option (List ℕ)) (bytes : List ℕ) → Consumes left left_now bytes → length bytes ≤ n
+    → TookMoreThan n left left_now → ⊥
 took_few n None left_now bytes taken few more = more
 took_few n (Some xs) None bytes taken few more = more
 took_few n (Some xs) (Some ys) bytes taken few more = omega (arith, ap length taken, length-append bytes ys, more)
 
-took_many : (n : ℕ) (left left_now : Option (List ℕ)) (bytes : List ℕ) → Consumes left left_now bytes → length bytes ≡ n + 1 → IfSome left (λ _. TookMoreThan n left left_now)
+took_many : (n : ℕ) (left left_now : Option (List ℕ)) (bytes : List ℕ) → Consumes left left_now bytes
+    → length bytes ≡ n + 1 → IfSome left (λ _. TookMoreThan n left left_now)
 took_many n None left_now bytes taken many = tt
 took_many n (Some xs) None bytes taken many = absurd taken
 took_many n (Some xs) (Some ys) bytes taken many = omega (arith, ap length taken, length-append bytes ys, many)
 
-all_taken : (xs : List ℕ) (left_now : Option (List ℕ)) (bytes : List ℕ) → Consumes (Some xs) left_now bytes → IsAtEnd left_now → xs ≡ bytes
+all_taken : (xs : List ℕ) (left_now : Option (List ℕ)) (bytes : List ℕ) → Consumes (Some xs) left_now bytes
+    → IsAtEnd left_now → xs ≡ bytes
 all_taken xs None bytes taken last = absurd taken
 all_taken xs (Some ys) bytes taken last = taken ∙ ap (λ z. bytes ++ z) last ∙ append-nil bytes
 
@@ -47,7 +51,8 @@ one_status mode.Check bytes t u a b h k = (one_checked bytes t u a b h k).1
 one_status (mode.Load n seed workers) bytes t u a b h k = h.1 ∙ sym k.1
 
 -- a mode reads its input, or its text does not depend on it
-reads_or_not : (m : Mode) → (IsLoad m → ⊥) ⊎ ((bytes input text : List ℕ) (status : ℕ) → Session m bytes text status → Session m input text status)
+reads_or_not : (m : Mode) → (IsLoad m → ⊥)
+    ⊎ ((bytes input text : List ℕ) (status : ℕ) → Session m bytes text status → Session m input text status)
 reads_or_not (mode.Run workers smooth) = inl (λ load. load)
 reads_or_not (mode.Live workers readers slots smooth) = inl (λ load. load)
 reads_or_not mode.Check = inl (λ load. load)
@@ -63,12 +68,16 @@ module _ (m : Mode) (before now : Streams) where
   -- what is said of an input that has a refused line
   abbrev SaidOfRefused : ℕ → List ℕ → Type 0
   SaidOfRefused status input =
-      (text : List ℕ) → Session m input text 1 → (status ≡ 1) ⊎ (TookMoreThan MOST_INPUT before.source.left now.source.left ⊎ (Rose before.source.faults now.source.faults ⊎ (Rose before.sink.faults now.sink.faults ⊎ (status ≡ 5))))
+      (text : List ℕ) → Session m input text 1 → (status ≡ 1)
+      ⊎ (TookMoreThan MOST_INPUT before.source.left now.source.left
+      ⊎ (Rose before.source.faults now.source.faults ⊎ (Rose before.sink.faults now.sink.faults ⊎ (status ≡ 5))))
 
   -- what is said of an input that is not too long
   abbrev SaidOfWhole : ℕ → List ℕ → Type 0
   SaidOfWhole status input =
-      length input ≤ MOST_INPUT → (Rose before.source.faults now.source.faults → ⊥) → (Rose before.sink.faults now.sink.faults → ⊥) → (status ≡ 5) ⊎ IsComplete m input before.sink.held now.sink.held status
+      length input ≤ MOST_INPUT → (Rose before.source.faults now.source.faults → ⊥)
+      → (Rose before.sink.faults now.sink.faults → ⊥) → (status ≡ 5)
+      ⊎ IsComplete m input before.sink.held now.sink.held status
 
   abbrev ended : Bool → ℕ
   ended refused = status_after (Ok refused)
@@ -85,19 +94,23 @@ module _ (m : Mode) (before now : Streams) where
   neither refused j k l i h = elim h [ inl e ↦ no_more refused j l e | inr e ↦ no_more refused k i e ]
 
   no_failure : (refused : Bool) → (ended refused ≡ 3) ⊎ ((ended refused ≡ 5) ⊎ (ended refused ≡ 6)) → ⊥
-  no_failure refused h = elim h [ inl e ↦ no_more refused 3 (omega arith) e | inr e ↦ neither refused 5 6 (omega arith) (omega arith) e ]
+  no_failure refused h =
+      elim h [ inl e ↦ no_more refused 3 (omega arith) e | inr e ↦ neither refused 5 6 (omega arith) (omega arith) e ]
 
   -- in the mode that checks nothing was given before an early stop
   early_nothing : IsCheck m → IsStoppedEarly m before now → Appends before.sink.held now.sink.held []
   early_nothing check s = at m check s.replies
     where
-      at : (n : Mode) → IsCheck n → HasWholeReplies n (take MOST_INPUT s.bytes) s.text → Appends before.sink.held now.sink.held []
+      at : (n : Mode) → IsCheck n → HasWholeReplies n (take MOST_INPUT s.bytes) s.text
+          → Appends before.sink.held now.sink.held []
       at (mode.Run workers smooth) check replies = absurd check
       at (mode.Live workers readers slots smooth) check replies = absurd check
       at (mode.Load n seed workers) check replies = absurd check
-      at mode.Check check replies = let F : List ℕ → Type 0 = λ t. Appends before.sink.held now.sink.held t in subst F replies s.given
+      at mode.Check check replies =
+          let F : List ℕ → Type 0 = λ t. Appends before.sink.held now.sink.held t in subst F replies s.given
 
-  session_is : (status : ℕ) (a : IsAnswered m before now status) (input : List ℕ) → before.source.left ≡ Some input → (text : List ℕ) × Appends before.sink.held now.sink.held text × Session m input text status
+  session_is : (status : ℕ) (a : IsAnswered m before now status) (input : List ℕ) → before.source.left ≡ Some input
+      → (text : List ℕ) × Appends before.sink.held now.sink.held text × Session m input text status
   session_is status a input told = elim (reads_or_not m) [
     | inl reads ↦
         let F : Option (List ℕ) → Type 0 = λ o. Consumes o now.source.left a.bytes in
@@ -107,7 +120,8 @@ module _ (m : Mode) (before now : Streams) where
     | inr free ↦ (a.text, a.given, free a.bytes input a.text status a.session)
   ]
 
-  ok_outcome : (refused : Bool) (a : IsAnswered m before now (ended refused)) → length a.bytes ≤ MOST_INPUT → IsOutcome m before now (ended refused)
+  ok_outcome : (refused : Bool) (a : IsAnswered m before now (ended refused)) → length a.bytes ≤ MOST_INPUT
+      → IsOutcome m before now (ended refused)
   ok_outcome refused a few = record {
     statuses = inl (read_to_end refused);
     answered = λ e. a;
@@ -116,16 +130,19 @@ module _ (m : Mode) (before now : Streams) where
     too_much = λ e. absurd (no_more refused 6 (omega arith) e);
     says_too_much = λ more. absurd (took_few MOST_INPUT before.source.left now.source.left a.bytes a.taken few more);
     says_refused = if_some (SaidOfRefused (ended refused)) before.source.left
-        (λ input told text session. let s = session_is (ended refused) a input told in inl (one_status m input s.0 text (ended refused) 1 s.2 session));
+        (λ input told text session. let s = session_is (ended refused) a input told in
+        inl (one_status m input s.0 text (ended refused) 1 s.2 session));
     stopped_early = λ e. absurd (neither refused 3 6 (omega arith) (omega arith) e);
     cut_short = λ e. absurd (neither refused 4 5 (omega arith) (omega arith) e);
     complete = if_some (SaidOfWhole (ended refused)) before.source.left
-        (λ input told few s k. let s = session_is (ended refused) a input told in inr (record { to_end = read_to_end refused; text = s.0; given = s.1; session = s.2 }));
+        (λ input told few s k. let s = session_is (ended refused) a input told in
+        inr (record { to_end = read_to_end refused; text = s.0; given = s.1; session = s.2 }));
     nothing_written = λ check e. absurd (no_failure refused e);
     takes = (a.bytes, a.taken, omega (arith, few));
   }
 
-  source_outcome : (s : IsStoppedEarly m before now) → length s.bytes ≤ MOST_INPUT → Rose before.source.faults now.source.faults → IsOutcome m before now 3
+  source_outcome : (s : IsStoppedEarly m before now) → length s.bytes ≤ MOST_INPUT
+      → Rose before.source.faults now.source.faults → IsOutcome m before now 3
   source_outcome s few rose = record {
     statuses = inr (inl refl);
     answered = λ e. absurd (elim e [ inl z ↦ omega (arith, z) | inr o ↦ omega (arith, o) ]);
@@ -149,7 +166,8 @@ module _ (m : Mode) (before now : Streams) where
     sink_failed = λ e. absurd (omega (arith, e));
     too_much = λ e. took_many MOST_INPUT before.source.left now.source.left s.bytes s.taken many;
     says_too_much = λ more. inl refl;
-    says_refused = if_some (SaidOfRefused 6) before.source.left (λ input told text session. inr (inl (more_than input told)));
+    says_refused =
+        if_some (SaidOfRefused 6) before.source.left (λ input told text session. inr (inl (more_than input told)));
     stopped_early = λ e. s;
     cut_short = λ e. absurd (elim e [ inl z ↦ omega (arith, z) | inr o ↦ omega (arith, o) ]);
     complete = if_some (SaidOfWhole 6) before.source.left (λ input told l no k. absurd (too_long input told l));
@@ -157,9 +175,11 @@ module _ (m : Mode) (before now : Streams) where
     takes = (s.bytes, s.taken, omega (arith, many));
   }
     where
-      more_than : (input : List ℕ) → before.source.left ≡ Some input → TookMoreThan MOST_INPUT before.source.left now.source.left
+      more_than : (input : List ℕ) → before.source.left ≡ Some input
+          → TookMoreThan MOST_INPUT before.source.left now.source.left
       more_than input told =
-          let F : Option (List ℕ) → Type 0 = λ o. IfSome o (λ _. TookMoreThan MOST_INPUT before.source.left now.source.left) in
+          let F : Option (List ℕ) → Type 0 =
+          λ o. IfSome o (λ _. TookMoreThan MOST_INPUT before.source.left now.source.left) in
           subst F told (took_many MOST_INPUT before.source.left now.source.left s.bytes s.taken many)
 
       too_long : (input : List ℕ) → before.source.left ≡ Some input → length input ≤ MOST_INPUT → ⊥
@@ -191,11 +211,17 @@ module _ (m : Mode) (before now : Streams) where
     stopped_early = λ e. absurd (elim e [ inl z ↦ omega (arith, z) | inr o ↦ omega (arith, o) ]);
     cut_short = λ e. short_of s;
     complete = if_some (SaidOfWhole 4) before.source.left (λ input told l no k. absurd (k rose));
-    nothing_written = λ check e. absurd (elim e [ inl z ↦ omega (arith, z) | inr o ↦ elim o [ inl z ↦ omega (arith, z) | inr z ↦ omega (arith, z) ] ]);
+    nothing_written =
+        λ check e. absurd (elim e [
+          | inl z ↦ omega (arith, z)
+          | inr o ↦
+              elim o [ inl z ↦ omega (arith, z) | inr z ↦ omega (arith, z) ]
+        ]);
     takes = (s.bytes, s.taken, s.few);
   }
 
-  memory_outcome : IsShort m before now → (IsCheck m → Appends before.sink.held now.sink.held []) → IsOutcome m before now 5
+  memory_outcome : IsShort m before now → (IsCheck m → Appends before.sink.held now.sink.held [])
+      → IsOutcome m before now 5
   memory_outcome s nothing = record {
     statuses = inr (inr (inr (inl refl)));
     answered = λ e. absurd (elim e [ inl z ↦ omega (arith, z) | inr o ↦ omega (arith, o) ]);
@@ -218,7 +244,8 @@ module _ (m : Mode) (before now : Streams) where
   outcome_of (Err stop.Memory) h = memory_outcome h.0 h.1
   outcome_of (Err stop.Limit) h = limit_outcome h.0 h.1
 
-  pub outcome_at : (status : ℕ) (r : Result Bool Stop) → status ≡ status_after r → EndsAs m r before now → IsOutcome m before now status
+  pub outcome_at : (status : ℕ) (r : Result Bool Stop) → status ≡ status_after r → EndsAs m r before now
+      → IsOutcome m before now status
   outcome_at status r is h =
       let F : ℕ → Type 0 = λ z. IsOutcome m before now z in
       subst F (sym is) (outcome_of r h)
@@ -239,16 +266,38 @@ pub record IsOverLines (m : Mode) (start : State) : Type 0 where
   no_load : IsLoad m → ⊥
 
 pub run_over : (workers : ℕ) (smooth : Bool) → IsOverLines (mode.Run workers smooth) (first_state None smooth)
-run_over workers smooth = record { session = λ bytes text status h. h; whole = λ bytes text h. h; no_check = λ check. check; no_load = λ load. load }
+run_over workers smooth =
+    record {
+      session = λ bytes text status h. h;
+      whole = λ bytes text h. h;
+      no_check = λ check. check;
+      no_load = λ load.
+          load;
+    }
 
-pub live_over : (workers readers slots : ℕ) (smooth : Bool) → IsOverLines (mode.Live workers readers slots smooth) (first_state (Some readers) smooth)
-live_over workers readers slots smooth = record { session = λ bytes text status h. h; whole = λ bytes text h. h; no_check = λ check. check; no_load = λ load. load }
+pub live_over : (workers readers slots : ℕ) (smooth : Bool)
+    → IsOverLines (mode.Live workers readers slots smooth) (first_state (Some readers) smooth)
+live_over workers readers slots smooth =
+    record {
+      session = λ bytes text status h. h;
+      whole = λ bytes text h. h;
+      no_check = λ check. check;
+      no_load = λ load.
+          load;
+    }
 
 module _ (m : Mode) (start : State) (over : IsOverLines m start) (before now : Streams) where
   early_of : (bytes : List ℕ) → StoppedAfter start before now bytes → IsStoppedEarly m before now
   early_of bytes s =
       let F : List (List ℕ) → Type 0 = λ ls. HaveReplies start ls s.gave.0 in
-      record { bytes = bytes; text = s.gave.0; taken = s.taken; given = s.gave.2; replies = over.whole (take MOST_INPUT bytes) s.gave.0 (subst F (sym (whole_lines_is (take MOST_INPUT bytes))) s.gave.1) }
+      record {
+        bytes = bytes;
+        text = s.gave.0;
+        taken = s.taken;
+        given = s.gave.2;
+        replies = over.whole
+            (take MOST_INPUT bytes) s.gave.0 (subst F (sym (whole_lines_is (take MOST_INPUT bytes))) s.gave.1);
+      }
 
   short_run : (bytes : List ℕ) → StoppedAmong start before now bytes → IsShort m before now
   short_run bytes s = record {
@@ -259,7 +308,14 @@ module _ (m : Mode) (start : State) (over : IsOverLines m start) (before now : S
         let f = s.front more told in
         let whole = take MOST_INPUT (bytes ++ more) in
         let status = status_of (after_lines start (lines_of whole)) in
-        record { front = f.0; rest = f.1.0; status = status; given = f.2; session = over.session whole (f.0 ++ f.1.0) status (f.1.1, refl) };
+        record {
+          front = f.0;
+          rest = f.1.0;
+          status = status;
+          given = f.2;
+          session = over.session whole (f.0 ++ f.1.0)
+              status (f.1.1, refl);
+        };
   }
 
   pub run_ends : (r : Result Bool Stop) → RunEnds start r before now → EndsAs m r before now
@@ -267,7 +323,17 @@ module _ (m : Mode) (start : State) (over : IsOverLines m start) (before now : S
   run_ends (Ok refused) h =
       let r = h.1 in
       let status = status_after (Ok refused) in (
-        record { bytes = h.0; text = r.gave.0; taken = r.taken; last = λ _. r.last; unread = λ load. absurd (over.no_load load); given = r.gave.2; session = over.session h.0 r.gave.0 status (r.gave.1, status_from refused (has_refused (after_lines start (lines_of h.0))) r.refused) },
+        record {
+          bytes = h.0;
+          text = r.gave.0;
+          taken = r.taken;
+          last = λ _. r.last;
+          unread = λ load. absurd
+              (over.no_load load);
+          given = r.gave.2;
+          session = over.session h.0 r.gave.0 status
+              (r.gave.1, status_from refused (has_refused (after_lines start (lines_of h.0))) r.refused);
+        },
         r.few,
       )
   run_ends (Err stop.Source) h = (early_of h.0.0 h.0.1, h.0.2, h.1)
@@ -276,14 +342,18 @@ module _ (m : Mode) (start : State) (over : IsOverLines m start) (before now : S
   run_ends (Err stop.Limit) h = (early_of h.0 h.1, h.2)
 
 -- what holds of the mode holds of that which the words give
-pub of_words : (P : Mode → Type 0) (read given : Option Mode) (m : Mode) → read ≡ Some m → read ≡ given → P m → IfSome given P
+pub of_words : (P : Mode → Type 0) (read given : Option Mode) (m : Mode) → read ≡ Some m → read ≡ given → P m
+    → IfSome given P
 of_words P read given m is same h =
     let F : Option Mode → Type 0 = λ o. IfSome o P in
     subst F (sym is ∙ same) h
 
 -- the outcome of the mode `live`
-pub live_outcome : (workers readers slots : ℕ) (smooth : Bool) (start : State) (before now : Streams) (status : ℕ) (r : Result Bool Stop) → start ≡ first_state (Some readers) smooth → status ≡ status_after r → RunEnds start r before now → IsOutcome (mode.Live workers readers slots smooth) before now status
+pub live_outcome : (workers readers slots : ℕ) (smooth : Bool) (start : State) (before now : Streams) (status : ℕ)
+    (r : Result Bool Stop) → start ≡ first_state (Some readers) smooth → status ≡ status_after r
+    → RunEnds start r before now → IsOutcome (mode.Live workers readers slots smooth) before now status
 live_outcome workers readers slots smooth start before now status r same is h =
     let m = mode.Live workers readers slots smooth in
     let F : State → Type 0 = λ s. RunEnds s r before now in
-    outcome_at m before now status r is (run_ends m (first_state (Some readers) smooth) (live_over workers readers slots smooth) before now r (subst F same h))
+    outcome_at m before now status r is (run_ends m (first_state (Some readers) smooth)
+    (live_over workers readers slots smooth) before now r (subst F same h))

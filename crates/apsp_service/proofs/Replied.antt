@@ -5,6 +5,7 @@ use Rattle.std.proofs.lemmas.Bool.{cases_lt}
 use Rattle.std.proofs.Math.ListN.{get_or-append}
 use Rattle.std.proofs.Math.Seq.{get_or-append_seam}
 use Rattle.apsp_model.specs.Graph.{Graph}
+use Rattle.apsp_model.specs.Grows.{GrowsFit}
 use Rattle.apsp_model.specs.Command.{Command, graph_of}
 use Rattle.apsp_model.specs.Walk.{weight_of}
 use Rattle.apsp_model.proofs.Exists.{least_or_none, least_is_some_option}
@@ -23,13 +24,14 @@ use Rattle.apsp_service.specs.Session.{State, HasReply, HasLineReply, HasAnswer,
 use Rattle.apsp_service.specs.Giving.{IsFrontOfReplies}
 use Rattle.apsp_service.specs.Lawful.{IsLawfulState}
 use Rattle.network_replies.proofs.Rows.{IsFirstRow, row_none, row_more}
-use Rattle.apsp_service.proofs.Lawful.{line_lawful, lines_lawful}
+use Rattle.apsp_service.proofs.Lawful.{stars_fit, line_lawful, lines_lawful}
 use Rattle.apsp_service.proofs.BlockAnswered.{block_reply_exists}
 
 -- ---- there are replies
 
 pub distance_exists : (g : Graph) (x y : ℕ) → (d : Option ℕ) × IsDistance g x y d
-distance_exists g x y = elim (least_or_none g x y) [ inl p ↦ (Some (weight_of g p.0), (p.0, p.1, refl)) | inr none ↦ (None, none) ]
+distance_exists g x y =
+    elim (least_or_none g x y) [ inl p ↦ (Some (weight_of g p.0), (p.0, p.1, refl)) | inr none ↦ (None, none) ]
 
 row_exists : (g : Graph) (x n : ℕ) → (row : List (Option ℕ)) × IsFirstRow g x n row
 row_exists g x zero = ([], row_none g x)
@@ -40,46 +42,66 @@ row_exists g x (suc n) =
     let F : ℕ → Type 0 = λ k. IsFirstRow g x k (r.0 ++ d.0 ∷ []) in
     (r.0 ++ d.0 ∷ [], subst F one (row_more g x n d.0 r.0 r.1 d.1))
 
-age_exists : (n : ℕ) (smooth : Bool) (commands : List Command) (list : List ℕ) → (text : List ℕ) × IsAgeReply n smooth commands list text
-age_exists n smooth commands list = elim (birth_exists n smooth commands list) [
+age_exists : (n : ℕ) (smooth : Bool) (commands : List Command) → GrowsFit n commands → (list : List ℕ) → (text : List ℕ)
+    × IsAgeReply n smooth commands list text
+age_exists n smooth commands fit list = elim (birth_exists n smooth commands fit list) [
   | inl b ↦ (age_text list (Some b.0), (Some b.0, b.1, refl))
   | inr none ↦ (age_text list None, (None, none, refl))
 ]
 
-reply_exists : (n : ℕ) (smooth : Bool) (commands : List Command) (l : Line) → (text : List ℕ) × HasReply n smooth commands l text
-reply_exists n smooth commands line.Nothing = ([], refl)
-reply_exists n smooth commands (line.Vertices m) = ([], refl)
-reply_exists n smooth commands (line.Star star) = ([], refl)
-reply_exists n smooth commands (line.Edge u v w) = ([], refl)
-reply_exists n smooth commands (line.Cut u v) = ([], refl)
-reply_exists n smooth commands (line.Dist x y) = let d = distance_exists (graph_of n commands) x y in (dist_text x y d.0, (d.0, d.1, refl))
-reply_exists n smooth commands (line.Path x y) =
-    let walk = least_is_some_option (graph_of n commands) x y in (path_text (graph_of n commands) x y walk.0, (walk.0, walk.1, refl))
-reply_exists n smooth commands (line.Row x) =
+reply_exists : (n : ℕ) (smooth : Bool) (commands : List Command) → GrowsFit n commands → (l : Line) → (text : List ℕ)
+    × HasReply n smooth commands l text
+reply_exists n smooth commands fit line.Nothing = ([], refl)
+reply_exists n smooth commands fit (line.Vertices m) = ([], refl)
+reply_exists n smooth commands fit (line.Star star) = ([], refl)
+reply_exists n smooth commands fit (line.Edge u v w) = ([], refl)
+reply_exists n smooth commands fit (line.Cut u v) = ([], refl)
+reply_exists n smooth commands fit (line.Dist x y) =
+    let d = distance_exists (graph_of n commands) x y in (dist_text x y d.0, (d.0, d.1, refl))
+reply_exists n smooth commands fit (line.Path x y) =
+    let walk =
+    least_is_some_option (graph_of n commands) x y in
+    (path_text (graph_of n commands) x y walk.0, (walk.0, walk.1, refl))
+reply_exists n smooth commands fit (line.Row x) =
     let r = row_exists (graph_of n commands) x (graph_of n commands).vertices in
     (row_text x r.0, (r.0, record { size = r.1.size; each = r.1.each }, refl))
-reply_exists n smooth commands line.Block = ([], refl)
-reply_exists n smooth commands (line.Ask x y since) = ([], refl)
-reply_exists n smooth commands line.End = ([], refl)
-reply_exists n smooth commands line.Stats = let c = counts_exist n smooth commands in (stats_text c.0, (c.0, c.1, refl))
-reply_exists n smooth commands (line.Age list) = age_exists n smooth commands list
-reply_exists n smooth commands line.Cert = let v = version_after n commands in (text_of (value_of v), (value_of v, value_is v, refl))
+reply_exists n smooth commands fit line.Block = ([], refl)
+reply_exists n smooth commands fit (line.Ask x y since) = ([], refl)
+reply_exists n smooth commands fit line.End = ([], refl)
+reply_exists n smooth commands fit line.Stats =
+    let c = counts_exist n smooth commands fit in (stats_text c.0, (c.0, c.1, refl))
+reply_exists n smooth commands fit (line.Age list) = age_exists n smooth commands fit list
+reply_exists n smooth commands fit line.Cert =
+    let v = version_after n commands in (text_of (value_of v), (value_of v, value_is v, refl))
 
 line_reply_exists : (s : State) (l : Line) → IsLawfulState s → (text : List ℕ) × HasLineReply s l text
 line_reply_exists s line.End h = block_reply_exists s h
-line_reply_exists s line.Nothing h = reply_exists s.vertices s.smooth s.commands line.Nothing
-line_reply_exists s (line.Vertices m) h = reply_exists s.vertices s.smooth s.commands (line.Vertices m)
-line_reply_exists s (line.Star star) h = reply_exists s.vertices s.smooth s.commands (line.Star star)
-line_reply_exists s (line.Edge u v w) h = reply_exists s.vertices s.smooth s.commands (line.Edge u v w)
-line_reply_exists s (line.Cut u v) h = reply_exists s.vertices s.smooth s.commands (line.Cut u v)
-line_reply_exists s (line.Dist x y) h = reply_exists s.vertices s.smooth s.commands (line.Dist x y)
-line_reply_exists s (line.Path x y) h = reply_exists s.vertices s.smooth s.commands (line.Path x y)
-line_reply_exists s (line.Row x) h = reply_exists s.vertices s.smooth s.commands (line.Row x)
-line_reply_exists s line.Stats h = reply_exists s.vertices s.smooth s.commands line.Stats
-line_reply_exists s (line.Age list) h = reply_exists s.vertices s.smooth s.commands (line.Age list)
-line_reply_exists s line.Cert h = reply_exists s.vertices s.smooth s.commands line.Cert
-line_reply_exists s line.Block h = reply_exists s.vertices s.smooth s.commands line.Block
-line_reply_exists s (line.Ask x y since) h = reply_exists s.vertices s.smooth s.commands (line.Ask x y since)
+line_reply_exists s line.Nothing h =
+    reply_exists s.vertices s.smooth s.commands (stars_fit s.vertices s.commands h.commands) line.Nothing
+line_reply_exists s (line.Vertices m) h =
+    reply_exists s.vertices s.smooth s.commands (stars_fit s.vertices s.commands h.commands) (line.Vertices m)
+line_reply_exists s (line.Star star) h =
+    reply_exists s.vertices s.smooth s.commands (stars_fit s.vertices s.commands h.commands) (line.Star star)
+line_reply_exists s (line.Edge u v w) h =
+    reply_exists s.vertices s.smooth s.commands (stars_fit s.vertices s.commands h.commands) (line.Edge u v w)
+line_reply_exists s (line.Cut u v) h =
+    reply_exists s.vertices s.smooth s.commands (stars_fit s.vertices s.commands h.commands) (line.Cut u v)
+line_reply_exists s (line.Dist x y) h =
+    reply_exists s.vertices s.smooth s.commands (stars_fit s.vertices s.commands h.commands) (line.Dist x y)
+line_reply_exists s (line.Path x y) h =
+    reply_exists s.vertices s.smooth s.commands (stars_fit s.vertices s.commands h.commands) (line.Path x y)
+line_reply_exists s (line.Row x) h =
+    reply_exists s.vertices s.smooth s.commands (stars_fit s.vertices s.commands h.commands) (line.Row x)
+line_reply_exists s line.Stats h =
+    reply_exists s.vertices s.smooth s.commands (stars_fit s.vertices s.commands h.commands) line.Stats
+line_reply_exists s (line.Age list) h =
+    reply_exists s.vertices s.smooth s.commands (stars_fit s.vertices s.commands h.commands) (line.Age list)
+line_reply_exists s line.Cert h =
+    reply_exists s.vertices s.smooth s.commands (stars_fit s.vertices s.commands h.commands) line.Cert
+line_reply_exists s line.Block h =
+    reply_exists s.vertices s.smooth s.commands (stars_fit s.vertices s.commands h.commands) line.Block
+line_reply_exists s (line.Ask x y since) h =
+    reply_exists s.vertices s.smooth s.commands (stars_fit s.vertices s.commands h.commands) (line.Ask x y since)
 
 answer_exists : (s : State) (read : Result Line Refusal) → IsLawfulState s → (text : List ℕ) × HasAnswer s read text
 answer_exists s (Ok l) h = line_reply_exists s l h
@@ -94,27 +116,44 @@ replies_exist s (bytes ∷ lines) h =
 
 -- ---- one after another
 
-pub after_lines-append : (s : State) (xs ys : List (List ℕ)) → after_lines s (xs ++ ys) ≡ after_lines (after_lines s xs) ys
+pub after_lines-append : (s : State) (xs ys : List (List ℕ))
+    → after_lines s (xs ++ ys) ≡ after_lines (after_lines s xs) ys
 after_lines-append s [] ys = refl
 after_lines-append s (bytes ∷ xs) ys = after_lines-append (after_line s bytes) xs ys
 
-pub replies_append : (s : State) (xs ys : List (List ℕ)) (t u : List ℕ) → HaveReplies s xs t → HaveReplies (after_lines s xs) ys u → HaveReplies s (xs ++ ys) (t ++ u)
-replies_append s [] ys t u h k = let P : List ℕ → Type 0 = λ v. HaveReplies s ys v in subst P (sym (ap (λ v. v ++ u) h)) k
-replies_append s (bytes ∷ xs) ys t u h k =
-    (h.0, h.1 ++ u, h.2, replies_append (after_line s bytes) xs ys h.1 u h.3 k, ap (λ v. v ++ u) h.4 ∙ append_assoc h.0 h.1 u)
+pub replies_append : (s : State) (xs ys : List (List ℕ)) (t u : List ℕ) → HaveReplies s xs t
+    → HaveReplies (after_lines s xs) ys u → HaveReplies s (xs ++ ys) (t ++ u)
+replies_append s [] ys t u h k =
+    let P : List ℕ → Type 0 = λ v. HaveReplies s ys v in subst P (sym (ap (λ v. v ++ u) h)) k
+replies_append s (bytes ∷ xs) ys t u h k = (
+  h.0,
+  h.1 ++ u,
+  h.2,
+  replies_append (after_line s bytes) xs ys h.1 u h.3 k,
+  ap (λ v. v ++ u) h.4
+      ∙ append_assoc h.0 h.1 u,
+)
 
 pub one_reply : (s : State) (bytes text : List ℕ) → LineHasReply s bytes text → HaveReplies s (bytes ∷ []) text
 one_reply s bytes text h = (text, [], h, refl, sym (append-nil text))
 
 -- a front of the replies to these lines is one of the replies to more lines
-pub front_of_more : (s : State) (xs ys : List (List ℕ)) (front : List ℕ) → IsLawfulState s → IsFrontOfReplies s xs front → IsFrontOfReplies s (xs ++ ys) front
+pub front_of_more : (s : State) (xs ys : List (List ℕ)) (front : List ℕ) → IsLawfulState s → IsFrontOfReplies s xs front
+    → IsFrontOfReplies s (xs ++ ys) front
 front_of_more s xs ys front lawful h =
-    let more = replies_exist (after_lines s xs) ys (lines_lawful s xs lawful) in
-    (h.0 ++ more.0, let P : List ℕ → Type 0 = λ v. HaveReplies s (xs ++ ys) v in subst P (append_assoc front h.0 more.0) (replies_append s xs ys (front ++ h.0) more.0 h.1 more.1))
+    let more = replies_exist (after_lines s xs) ys (lines_lawful s xs lawful) in (
+      h.0 ++ more.0,
+      let P : List ℕ → Type 0 = λ v. HaveReplies s (xs ++ ys) v in
+          subst P (append_assoc front h.0 more.0) (replies_append s xs ys (front ++ h.0) more.0 h.1 more.1),
+    )
 
-pub front_behind : (s : State) (xs ys : List (List ℕ)) (t front : List ℕ) → HaveReplies s xs t → IsFrontOfReplies (after_lines s xs) ys front → IsFrontOfReplies s (xs ++ ys) (t ++ front)
-front_behind s xs ys t front h k =
-    (k.0, let P : List ℕ → Type 0 = λ v. HaveReplies s (xs ++ ys) v in subst P (sym (append_assoc t front k.0)) (replies_append s xs ys t (front ++ k.0) h k.1))
+pub front_behind : (s : State) (xs ys : List (List ℕ)) (t front : List ℕ) → HaveReplies s xs t
+    → IsFrontOfReplies (after_lines s xs) ys front → IsFrontOfReplies s (xs ++ ys) (t ++ front)
+front_behind s xs ys t front h k = (
+  k.0,
+  let P : List ℕ → Type 0 = λ v. HaveReplies s (xs ++ ys) v in
+      subst P (sym (append_assoc t front k.0)) (replies_append s xs ys t (front ++ k.0) h k.1),
+)
 
 pub front_whole : (s : State) (xs : List (List ℕ)) (t : List ℕ) → HaveReplies s xs t → IsFrontOfReplies s xs t
 front_whole s xs t h = ([], let P : List ℕ → Type 0 = λ v. HaveReplies s xs v in subst P (sym (append-nil t)) h)

@@ -1,7 +1,7 @@
 -- A session goes on standing for the lines that were read.
 use Rattle.std.proofs.Common.{◌≡◌, ℕ, ◌+◌, ◌<◌, ◌≤◌, ◌^◌, true, List, [], ◌∷◌, ◌++◌, length, length-append, append-nil, refl, sym, ap, subst, ◌∙◌, arith}
 use Rattle.std.specs.Prelude.{Bool, Option, Some, None, Result, Ok, Err, OnOk, IfOk, IfSome, IsSome, is_some, false}
-use Rattle.apsp_model.specs.Command.{Command, Update, graph_of}
+use Rattle.apsp_model.specs.Command.{Command, Star_update, graph_of}
 use Rattle.apsp_model.specs.Graph.{Graph}
 use Rattle.apsp_model.specs.Star.{Star}
 use Rattle.history_engine.specs.Seen.{EngineSeen}
@@ -24,8 +24,8 @@ use Rattle.block_run.specs.Run.{AdvancesBy, CanRun, HasRun}
 use Rattle.network_replies.specs.Blocks.{Block, last_graph, updates_in, asks_in}
 use Rattle.network_replies.specs.Replies.{answer_text}
 use Rattle.std.specs.List.{flat_map}
-use Rattle.apsp_service.specs.Lawful.{IsBlockOf, IsLawfulState}
-use Rattle.apsp_service.proofs.Lawful.{accepted_lawful, here_vertices}
+use Rattle.apsp_service.specs.Lawful.{IsBlockOf, AreStars, IsLawfulState}
+use Rattle.apsp_service.proofs.Lawful.{accepted_lawful, graph_vertices, here_vertices, stars_more}
 use Rattle.script_reader.specs.Answer.{FitsContext}
 use Rattle.apsp_service.specs.declared.session.Session.{Session}
 use Rattle.apsp_service.specs.Giving.{HasNetwork, HasInside, IsNetworkOf, CanBeUpdated, CertificateGiven, vertices_in}
@@ -34,8 +34,10 @@ use Rattle.apsp_service.specs.Standing.{HasState}
 use Rattle.network_replies.proofs.Seen.{sink_at}
 
 -- the state of a session does not hang on the line that is begun
-pub with_line : (session : Session) (cutter : Cutting) (s : State) → HasState session s → HasState (record session { cutter = cutter }) s
-with_line session cutter s h = record { inside = h.inside; readers = h.readers; smooth = h.smooth; lines = h.lines; refused = h.refused }
+pub with_line : (session : Session) (cutter : Cutting) (s : State) → HasState session s
+    → HasState (record session { cutter = cutter }) s
+with_line session cutter s h =
+    record { inside = h.inside; readers = h.readers; smooth = h.smooth; lines = h.lines; refused = h.refused }
 
 pub ready_of : (seen : Option EngineSeen) (s : State) → HasNetwork seen s → s.lines < 2 ^ 40 → CanBeUpdated seen
 ready_of None s h few = tt
@@ -84,22 +86,51 @@ accepted_keeps s (line.Age list) = kept_all s
 accepted_keeps s line.Cert = kept_all s
 
 -- the state after an accepted line
-pub line_stands : (s : State) (content : List ℕ) (l : Line) (session : Session) → line_of (context_of s) content ≡ Ok l → HasInside session.network session.block (accepted (counted s) l) → session.readers ≡ s.readers → session.smooth ≡ s.smooth → session.lines ≡ s.lines + 1 → session.refused ≡ s.refused → HasState session (after_line s content)
+pub line_stands : (s : State) (content : List ℕ) (l : Line) (session : Session) → line_of (context_of s) content ≡ Ok l
+    → HasInside session.network session.block (accepted (counted s) l) → session.readers ≡ s.readers
+    → session.smooth ≡ s.smooth → session.lines ≡ s.lines + 1 → session.refused ≡ s.refused
+    → HasState session (after_line s content)
 line_stands s content l session reading h readers smooth lines refused =
     let F : Result Line Refusal → Type 0 = λ read. HasState session (after_read s read) in
     let k : Keeps (counted s) (accepted (counted s) l) = accepted_keeps (counted s) l in
-    subst F (sym reading) (record { inside = h; readers = readers ∙ sym k.readers; smooth = smooth ∙ sym k.smooth; lines = lines ∙ sym k.lines; refused = refused ∙ sym k.refused })
+    subst F (sym reading) (record {
+      inside = h;
+      readers = readers ∙ sym k.readers;
+      smooth = smooth
+          ∙ sym k.smooth;
+      lines = lines ∙ sym k.lines;
+      refused = refused ∙ sym k.refused;
+    })
 
-pub line_stands_on : {E : Type 0} (r : Result (Unit {0}) E) (s : State) (content : List ℕ) (l : Line) (session : Session) → line_of (context_of s) content ≡ Ok l → OnOk r (HasInside session.network session.block (accepted (counted s) l)) → session.readers ≡ s.readers → session.smooth ≡ s.smooth → session.lines ≡ s.lines + 1 → session.refused ≡ s.refused → OnOk r (HasState session (after_line s content))
+pub line_stands_on : {E : Type 0} (r : Result (Unit {0}) E) (s : State) (content : List ℕ) (l : Line)
+    (session : Session) → line_of (context_of s) content ≡ Ok l
+    → OnOk r (HasInside session.network session.block (accepted (counted s) l)) → session.readers ≡ s.readers
+    → session.smooth ≡ s.smooth → session.lines ≡ s.lines + 1 → session.refused ≡ s.refused
+    → OnOk r (HasState session (after_line s content))
 line_stands_on (Err e) s content l session reading h readers smooth lines refused = tt
-line_stands_on (Ok u) s content l session reading h readers smooth lines refused = line_stands s content l session reading h readers smooth lines refused
+line_stands_on (Ok u) s content l session reading h readers smooth lines refused =
+    line_stands s content l session reading h readers smooth lines refused
 
 -- a refused line
-pub refused_stands : (s : State) (content : List ℕ) (session : Session) (refusal : Refusal) → line_of (context_of s) content ≡ Err refusal → HasInside session.network session.block s → session.readers ≡ s.readers → session.smooth ≡ s.smooth → session.lines ≡ s.lines + 1 → session.refused ≡ true → HasState session (after_line s content)
+pub refused_stands : (s : State) (content : List ℕ) (session : Session) (refusal : Refusal)
+    → line_of (context_of s) content ≡ Err refusal → HasInside session.network session.block s
+    → session.readers ≡ s.readers → session.smooth ≡ s.smooth → session.lines ≡ s.lines + 1 → session.refused ≡ true
+    → HasState session (after_line s content)
 refused_stands s content session refusal reading h readers smooth lines refused =
     let F : Result Line Refusal → Type 0 = λ read. HasState session (after_read s read) in
     subst F (sym reading) (record {
-      inside = record { network = network session.network h.network; block = h.block; asks = omega (arith, h.asks); lawful = record { most = h.lawful.most; block = h.lawful.block; live = h.lawful.live } };
+      inside = record {
+        network = network session.network h.network;
+        block = h.block;
+        asks = omega (arith, h.asks);
+        lawful = record {
+          most = h.lawful.most;
+          block = h.lawful.block;
+          live = h.lawful.live;
+          commands
+              = h.lawful.commands;
+        };
+      };
       readers = readers;
       smooth = smooth;
       lines = lines;
@@ -108,69 +139,106 @@ refused_stands s content session refusal reading h readers smooth lines refused 
   where
     network : (seen : Option EngineSeen) → HasNetwork seen s → HasNetwork seen (record (counted s) { refused = true })
     network None k = k
-    network (Some e) k = record { vertices = k.vertices; smooth = k.smooth; stands = k.stands; few = omega (arith, k.few) }
+    network (Some e) k =
+        record { vertices = k.vertices; smooth = k.smooth; stands = k.stands; few = omega (arith, k.few) }
 
 -- ---- what each line does
-
--- the fits of a line, for the state
-fits_state : (seen : Option EngineSeen) (open_block : Option Block) (readers : Option ℕ) (s : State) (l : Line) → HasInside seen open_block s → FitsContext (context_at (vertices_in seen) readers open_block) l → FitsContext (context_at s.vertices readers s.block) l
-fits_state seen open_block readers s l h f =
-    let F : ℕ → Type 0 = λ n. FitsContext (context_at n readers open_block) l in
-    let G : Option Block → Type 0 = λ o. FitsContext (context_at s.vertices readers o) l in
-    subst G h.block (subst F (vertices_are seen h.network) f)
-  where
-    vertices_are : (seen : Option EngineSeen) → HasNetwork seen s → vertices_in seen ≡ s.vertices
-    vertices_are None k = sym k.0
-    vertices_are (Some e) k = sym k.vertices
-
-counted_lawful : (s : State) → IsLawfulState s → IsLawfulState (counted s)
-counted_lawful s h = record { most = h.most; block = h.block; live = h.live }
-
-lawful_then : (seen : Option EngineSeen) (open_block : Option Block) (readers : Option ℕ) (s : State) (l : Line) → HasInside seen open_block s → FitsContext (context_at (vertices_in seen) readers open_block) l → IsLawfulState (accepted (counted s) l)
-lawful_then seen open_block readers s l h f = accepted_lawful (counted s) l (counted_lawful s h.lawful) readers (fits_state seen open_block readers s l h f)
 
 -- the graph that the network has
 pub graph_is : (e : EngineSeen) (s : State) → IsNetworkOf e s → e.graph ≡ graph_of s.vertices s.commands
 graph_is e s h = h.stands.outline.graph ∙ ap (λ n. graph_of n s.commands) (sym h.vertices)
+
+-- .. and its number of vertices
+present_is : (e : EngineSeen) (s : State) → IsNetworkOf e s → AreStars s.commands → e.graph.vertices ≡ s.vertices
+present_is e s k stars = ap (λ (g : Graph). g.vertices) (graph_is e s k) ∙ graph_vertices s.vertices s.commands stars
+
+pub vertices_are : (seen : Option EngineSeen) (open_block : Option Block) (s : State) → HasInside seen open_block s
+    → vertices_in seen ≡ s.vertices
+vertices_are seen open_block s h = at seen h.network
+  where
+    at : (e : Option EngineSeen) → HasNetwork e s → vertices_in e ≡ s.vertices
+    at None k = sym k.0
+    at (Some e) k = present_is e s k h.lawful.commands
+
+-- what the meaning of the next line depends on
+pub context_told : (session : Session) (s : State) → HasState session s
+    → context_at (vertices_in session.network) session.readers session.block ≡ context_of s
+context_told session s h =
+    λ i. context_at (vertices_are session.network session.block s h.inside i) (h.readers i) (h.inside.block i)
+
+-- the fits of a line, for the state
+fits_state : (seen : Option EngineSeen) (open_block : Option Block) (readers : Option ℕ) (s : State) (l : Line)
+    → HasInside seen open_block s → FitsContext (context_at (vertices_in seen) readers open_block) l
+    → FitsContext (context_at s.vertices readers s.block) l
+fits_state seen open_block readers s l h f =
+    let F : ℕ → Type 0 = λ n. FitsContext (context_at n readers open_block) l in
+    let G : Option Block → Type 0 = λ o. FitsContext (context_at s.vertices readers o) l in
+    subst G h.block (subst F (vertices_are seen open_block s h) f)
+
+counted_lawful : (s : State) → IsLawfulState s → IsLawfulState (counted s)
+counted_lawful s h = record { most = h.most; block = h.block; live = h.live; commands = h.commands }
+
+lawful_then : (seen : Option EngineSeen) (open_block : Option Block) (readers : Option ℕ) (s : State) (l : Line)
+    → HasInside seen open_block s → FitsContext (context_at (vertices_in seen) readers open_block) l
+    → IsLawfulState (accepted (counted s) l)
+lawful_then seen open_block readers s l h f =
+    accepted_lawful (counted s) l (counted_lawful s h.lawful) readers (fits_state seen open_block readers s l h f)
 
 -- the version that the network has
 pub version_is : (e : EngineSeen) (s : State) → IsNetworkOf e s → version_of e ≡ version_after s.vertices s.commands
 version_is e s h = λ i. record { number = length (h.stands.outline.vertices i); graph = graph_is e s h i }
 
 -- its certificate is that of the state's version
-pub certificate_stands : (r : Result (Unit {0}) Stop) (seen : Option EngineSeen) (e : EngineSeen) (s : State) (old new : Option (List ℕ)) (before now : ℕ) → seen ≡ Some e → HasNetwork seen s → (text : List ℕ) × IsTextOf (version_of e) text × LinesGiven r (sink_at old before) (sink_at new now) text → CertificateGiven r (sink_at old before) (sink_at new now) s
+pub certificate_stands : (r : Result (Unit {0}) Stop) (seen : Option EngineSeen) (e : EngineSeen) (s : State)
+    (old new : Option (List ℕ)) (before now : ℕ) → seen ≡ Some e → HasNetwork seen s → (text : List ℕ)
+    × IsTextOf (version_of e) text × LinesGiven r (sink_at old before) (sink_at new now) text
+    → CertificateGiven r (sink_at old before) (sink_at new now) s
 certificate_stands r seen e s old new before now is has given =
     let F : Option EngineSeen → Type 0 = λ o. HasNetwork o s in
-    let G : Version → Type 0 = λ v. (text : List ℕ) × IsTextOf v text × LinesGiven r (sink_at old before) (sink_at new now) text in
+    let G : Version → Type 0 =
+    λ v. (text : List ℕ) × IsTextOf v text × LinesGiven r (sink_at old before) (sink_at new now) text in
     subst G (version_is e s (subst F is has)) given
 
 -- ---- the updates of a block
 
-stands_by : (stars : List Star) (before after : EngineSeen) (commands : List Command) → AdvancesBy before stars after → Stands before commands → Stands after (with_updates stars commands)
+stands_by : (stars : List Star) (before after : EngineSeen) (commands : List Command) → AdvancesBy before stars after
+    → Stands before commands → Stands after (with_updates stars commands)
 stands_by [] before after commands a h = let F : EngineSeen → Type 0 = λ e. Stands e commands in subst F (sym a) h
-stands_by (star ∷ stars) before after commands a h = stands_by stars a.0 after (Update star ∷ commands) a.2 (law before a.0 (Update star) commands a.1 h)
+stands_by (star ∷ stars) before after commands a h =
+    stands_by stars a.0 after (Star_update star ∷ commands) a.2 (law before a.0 (Star_update star) commands a.1 h)
 
 record Moves (before : EngineSeen) (count : ℕ) (after : EngineSeen) : Type 0 where
   opening : after.opening ≡ before.opening
   smooth : after.smooth ≡ before.smooth
   vertices : length after.vertices ≡ length before.vertices + count
 
-moves_by : (stars : List Star) (before after : EngineSeen) → AdvancesBy before stars after → Moves before (length stars) after
-moves_by [] before after a = record { opening = ap (λ (e : EngineSeen). e.opening) a; smooth = ap (λ (e : EngineSeen). e.smooth) a; vertices = omega (arith, ap (λ (e : EngineSeen). length e.vertices) a) }
+moves_by : (stars : List Star) (before after : EngineSeen) → AdvancesBy before stars after
+    → Moves before (length stars) after
+moves_by [] before after a =
+    record {
+      opening = ap (λ (e : EngineSeen). e.opening) a;
+      smooth = ap (λ (e : EngineSeen). e.smooth) a;
+      vertices
+          = omega (arith, ap (λ (e : EngineSeen). length e.vertices) a);
+    }
 moves_by (star ∷ stars) before after a =
     let m = moves_by stars a.0 after a.2 in
     record {
       opening = m.opening ∙ a.1.opening;
       smooth = m.smooth ∙ a.1.smooth;
-      vertices = omega (arith, m.vertices, ap length a.1.vertices, length-append before.vertices (star.vertex ∷ []));
+      vertices =
+          omega (arith, m.vertices, ap length a.1.vertices, length-append before.vertices (Some star.vertex ∷ []));
     }
 
 -- a block was run
-pub block_ran : (before after : EngineSeen) (s : State) (b : Block) → HasInside (Some before) (Some b) s → AdvancesBy before b.plan.stars after → HasInside (Some after) None (accepted (counted s) line.End)
+pub block_ran : (before after : EngineSeen) (s : State) (b : Block) → HasInside (Some before) (Some b) s
+    → AdvancesBy before b.plan.stars after → HasInside (Some after) None (accepted (counted s) line.End)
 block_ran before after s b h a =
     let F : Option Block → Type 0 = λ o. HasInside (Some after) None (ended_in (counted s) o) in
     let m = moves_by b.plan.stars before after a in
-    let few : length before.vertices + length b.plan.stars ≤ s.lines = let G : Option Block → Type 0 = λ o. length before.vertices + updates_in o ≤ s.lines in subst G (sym h.block) h.network.few in
+    let few : length before.vertices + length b.plan.stars ≤ s.lines =
+    let G : Option Block → Type 0 = λ o. length before.vertices + updates_in o ≤ s.lines in
+    subst G (sym h.block) h.network.few in
     subst F h.block (record {
       network = record {
         vertices = h.network.vertices ∙ sym m.opening;
@@ -180,91 +248,172 @@ block_ran before after s b h a =
       };
       block = refl;
       asks = omega arith;
-      lawful = record { most = h.lawful.most; block = tt; live = λ none. refl };
+      lawful = record {
+        most = h.lawful.most;
+        block = tt;
+        live = λ none. refl;
+        commands = stars_more b.plan.stars
+            s.commands h.lawful.commands;
+      };
     })
 
 -- ---- lines outside and inside a block
 
 counted_network : (seen : Option EngineSeen) (s : State) → HasNetwork seen s → HasNetwork seen (counted s)
 counted_network None s k = k
-counted_network (Some e) s k = record { vertices = k.vertices; smooth = k.smooth; stands = k.stands; few = omega (arith, k.few) }
+counted_network (Some e) s k =
+    record { vertices = k.vertices; smooth = k.smooth; stands = k.stands; few = omega (arith, k.few) }
 
 -- a line that changes nothing
-pub counted_inside : (seen : Option EngineSeen) (open_block : Option Block) (s : State) → HasInside seen open_block s → HasInside seen open_block (counted s)
-counted_inside seen open_block s h = record { network = counted_network seen s h.network; block = h.block; asks = omega (arith, h.asks); lawful = counted_lawful s h.lawful }
+pub counted_inside : (seen : Option EngineSeen) (open_block : Option Block) (s : State) → HasInside seen open_block s
+    → HasInside seen open_block (counted s)
+counted_inside seen open_block s h =
+    record {
+      network = counted_network seen s h.network;
+      block = h.block;
+      asks = omega (arith, h.asks);
+      lawful
+          = counted_lawful s h.lawful;
+    }
 
-pub updated_outside : {E : Type 0} (r : Result (Unit {0}) E) (before after : EngineSeen) (s : State) (star : Star) → HasInside (Some before) None s → IsLawfulState (updated_in (counted s) s.block star) → OnOk r (Advance before (Update star) after) → OnOk r (HasInside (Some after) None (updated_in (counted s) s.block star))
+pub updated_outside : {E : Type 0} (r : Result (Unit {0}) E) (before after : EngineSeen) (s : State) (star : Star)
+    → HasInside (Some before) None s → IsLawfulState (updated_in (counted s) s.block star)
+    → OnOk r (Advance before (Star_update star) after)
+    → OnOk r (HasInside (Some after) None (updated_in (counted s) s.block star))
 updated_outside (Err e) before after s star h lawful a = tt
 updated_outside (Ok u) before after s star h lawful a =
-    let F : Option Block → Type 0 = λ o. IsLawfulState (updated_in (counted s) o star) → HasInside (Some after) None (updated_in (counted s) o star) in
+    let F : Option Block → Type 0 =
+    λ o. IsLawfulState (updated_in (counted s) o star)
+    → HasInside (Some after) None (updated_in (counted s) o star) in
     subst F h.block (λ l. record {
       network = record {
         vertices = h.network.vertices ∙ sym a.opening;
         smooth = a.smooth ∙ h.network.smooth;
-        stands = law before after (Update star) s.commands a h.network.stands;
-        few = omega (arith, ap length a.vertices, length-append before.vertices (star.vertex ∷ []), h.network.few);
+        stands = law before after (Star_update star) s.commands a h.network.stands;
+        few = omega (arith, ap length a.vertices, length-append before.vertices (Some star.vertex ∷ []), h.network.few);
       };
       block = h.block;
       asks = omega (arith, h.asks);
       lawful = l;
     }) lawful
 
-pub edge_outside : {E : Type 0} (r : Result (Unit {0}) E) (before after : EngineSeen) (s : State) (u v : ℕ) (w : Option ℕ) → HasInside (Some before) None s → IsLawfulState (updated_in (counted s) s.block (star_with (graph_here (counted s) s.block) u v w)) → OnOk r (Advance before (Update (star_with before.graph u v w)) after) → OnOk r (HasInside (Some after) None (updated_in (counted s) s.block (star_with (graph_here (counted s) s.block) u v w)))
+pub edge_outside : {E : Type 0} (r : Result (Unit {0}) E) (before after : EngineSeen) (s : State) (u v : ℕ)
+    (w : Option ℕ) → HasInside (Some before) None s
+    → IsLawfulState (updated_in (counted s) s.block (star_with (graph_here (counted s) s.block) u v w))
+    → OnOk r (Advance before (Star_update (star_with before.graph u v w)) after)
+    → OnOk r (HasInside (Some after) None
+    (updated_in (counted s) s.block (star_with (graph_here (counted s) s.block) u v w)))
 edge_outside r before after s u v w h lawful a =
     let G : Option Block → Type 0 = λ o. before.graph ≡ graph_here (counted s) o in
     let here : before.graph ≡ graph_here (counted s) s.block = subst G h.block (graph_is before s h.network) in
-    let F : Graph → Type 0 = λ g. OnOk r (Advance before (Update (star_with g u v w)) after) in
+    let F : Graph → Type 0 = λ g. OnOk r (Advance before (Star_update (star_with g u v w)) after) in
     updated_outside r before after s (star_with (graph_here (counted s) s.block) u v w) h lawful (subst F here a)
 
-pub updated_inside : {E : Type 0} (r : Result (Unit {0}) E) (e : EngineSeen) (old new : Block) (s : State) (star : Star) → HasInside (Some e) (Some old) s → IsLawfulState (updated_in (counted s) s.block star) → OnOk r (new ≡ record old { plan = with_star old.plan star }) → OnOk r (HasInside (Some e) (Some new) (updated_in (counted s) s.block star))
+pub updated_inside : {E : Type 0} (r : Result (Unit {0}) E) (e : EngineSeen) (old new : Block) (s : State) (star : Star)
+    → HasInside (Some e) (Some old) s → IsLawfulState (updated_in (counted s) s.block star)
+    → OnOk r (new ≡ record old { plan = with_star old.plan star })
+    → OnOk r (HasInside (Some e) (Some new) (updated_in (counted s) s.block star))
 updated_inside (Err x) e old new s star h lawful is = tt
 updated_inside (Ok u) e old new s star h lawful is =
-    let F : Option Block → Type 0 = λ o. (length e.vertices + updates_in o ≤ s.lines) → (asks_in o ≤ s.lines) → IsLawfulState (updated_in (counted s) o star) → HasInside (Some e) (Some new) (updated_in (counted s) o star) in
+    let F : Option Block → Type 0 =
+    λ o. (length e.vertices + updates_in o ≤ s.lines) → (asks_in o ≤ s.lines)
+    → IsLawfulState (updated_in (counted s) o star)
+    → HasInside (Some e) (Some new) (updated_in (counted s) o star) in
     subst F h.block (λ few asks l. record {
-      network = record { vertices = h.network.vertices; smooth = h.network.smooth; stands = h.network.stands; few = omega (arith, few, length-append old.plan.stars (star ∷ [])) };
+      network =
+          record {
+            vertices = h.network.vertices;
+            smooth = h.network.smooth;
+            stands = h.network.stands;
+            few = omega
+                (arith, few, length-append old.plan.stars (star ∷ []));
+          };
       block = ap Some is;
       asks = omega (arith, asks);
       lawful = l;
     }) h.network.few h.asks lawful
 
-pub edge_inside : {E : Type 0} (r : Result (Unit {0}) E) (e : EngineSeen) (old new : Block) (s : State) (u v : ℕ) (w : Option ℕ) → HasInside (Some e) (Some old) s → IsLawfulState (updated_in (counted s) s.block (star_with (graph_here (counted s) s.block) u v w)) → OnOk r (new ≡ record old { plan = with_star old.plan (star_with (last_graph old.plan) u v w) }) → OnOk r (HasInside (Some e) (Some new) (updated_in (counted s) s.block (star_with (graph_here (counted s) s.block) u v w)))
+pub edge_inside : {E : Type 0} (r : Result (Unit {0}) E) (e : EngineSeen) (old new : Block) (s : State) (u v : ℕ)
+    (w : Option ℕ) → HasInside (Some e) (Some old) s
+    → IsLawfulState (updated_in (counted s) s.block (star_with (graph_here (counted s) s.block) u v w))
+    → OnOk r (new ≡ record old { plan = with_star old.plan (star_with (last_graph old.plan) u v w) })
+    → OnOk r (HasInside (Some e) (Some new)
+    (updated_in (counted s) s.block (star_with (graph_here (counted s) s.block) u v w)))
 edge_inside r e old new s u v w h lawful is =
     let G : Option Block → Type 0 = λ o. last_graph old.plan ≡ graph_here (counted s) o in
     let here : last_graph old.plan ≡ graph_here (counted s) s.block = subst G h.block refl in
     let F : Graph → Type 0 = λ g. OnOk r (new ≡ record old { plan = with_star old.plan (star_with g u v w) }) in
     updated_inside r e old new s (star_with (graph_here (counted s) s.block) u v w) h lawful (subst F here is)
 
-pub asked_inside : {E : Type 0} (r : Result (Unit {0}) E) (e : EngineSeen) (old new : Block) (s : State) (ask : Ask) → HasInside (Some e) (Some old) s → IsLawfulState (asked_in (counted s) s.block ask) → OnOk r (new ≡ record old { asks = old.asks ++ ask ∷ [] }) → OnOk r (HasInside (Some e) (Some new) (asked_in (counted s) s.block ask))
+pub asked_inside : {E : Type 0} (r : Result (Unit {0}) E) (e : EngineSeen) (old new : Block) (s : State) (ask : Ask)
+    → HasInside (Some e) (Some old) s → IsLawfulState (asked_in (counted s) s.block ask)
+    → OnOk r (new ≡ record old { asks = old.asks ++ ask ∷ [] })
+    → OnOk r (HasInside (Some e) (Some new) (asked_in (counted s) s.block ask))
 asked_inside (Err x) e old new s ask h lawful is = tt
 asked_inside (Ok u) e old new s ask h lawful is =
-    let F : Option Block → Type 0 = λ o. (length e.vertices + updates_in o ≤ s.lines) → (asks_in o ≤ s.lines) → IsLawfulState (asked_in (counted s) o ask) → HasInside (Some e) (Some new) (asked_in (counted s) o ask) in
+    let F : Option Block → Type 0 =
+    λ o. (length e.vertices + updates_in o ≤ s.lines) → (asks_in o ≤ s.lines)
+    → IsLawfulState (asked_in (counted s) o ask) → HasInside (Some e) (Some new) (asked_in (counted s) o ask) in
     subst F h.block (λ few asks l. record {
-      network = record { vertices = h.network.vertices; smooth = h.network.smooth; stands = h.network.stands; few = omega (arith, few) };
+      network =
+          record {
+            vertices = h.network.vertices;
+            smooth = h.network.smooth;
+            stands = h.network.stands;
+            few = omega
+                (arith, few);
+          };
       block = ap Some is;
       asks = omega (arith, asks, length-append old.asks (ask ∷ []));
       lawful = l;
     }) h.network.few h.asks lawful
 
-pub asked_outside : (e : EngineSeen) (s : State) (ask : Ask) → HasInside (Some e) None s → HasInside (Some e) None (asked_in (counted s) s.block ask)
-asked_outside e s ask h = let F : Option Block → Type 0 = λ o. HasInside (Some e) None (asked_in (counted s) o ask) in subst F h.block (counted_inside (Some e) None s h)
+pub asked_outside : (e : EngineSeen) (s : State) (ask : Ask) → HasInside (Some e) None s
+    → HasInside (Some e) None (asked_in (counted s) s.block ask)
+asked_outside e s ask h =
+    let F : Option Block → Type 0 = λ o. HasInside (Some e) None (asked_in (counted s) o ask) in
+    subst F h.block (counted_inside (Some e) None s h)
 
 -- without a block there is nothing to run
-pub none_ran : (seen : Option EngineSeen) (s : State) → HasInside seen None s → HasInside seen None (accepted (counted s) line.End)
-none_ran seen s h = let F : Option Block → Type 0 = λ o. HasInside seen None (ended_in (counted s) o) in subst F h.block (counted_inside seen None s h)
+pub none_ran : (seen : Option EngineSeen) (s : State) → HasInside seen None s
+    → HasInside seen None (accepted (counted s) line.End)
+none_ran seen s h =
+    let F : Option Block → Type 0 = λ o. HasInside seen None (ended_in (counted s) o) in
+    subst F h.block (counted_inside seen None s h)
 
 -- a block was begun
-pub begun : (e : EngineSeen) (b : Block) (open_block : Option Block) (s : State) (n : ℕ) → HasInside (Some e) open_block s → s.readers ≡ Some n → b ≡ record { plan = record { start = e.graph; lo = length e.vertices; stars = [] }; asks = [] } → IsLawfulState (accepted (counted s) line.Block) → HasInside (Some e) (Some b) (accepted (counted s) line.Block)
+pub begun : (e : EngineSeen) (b : Block) (open_block : Option Block) (s : State) (n : ℕ)
+    → HasInside (Some e) open_block s → s.readers ≡ Some n
+    → b ≡ record { plan = record { start = e.graph; lo = length e.vertices; stars = [] }; asks = [] }
+    → IsLawfulState (accepted (counted s) line.Block) → HasInside (Some e) (Some b) (accepted (counted s) line.Block)
 begun e b open_block s n h readers is lawful =
-    let F : Option ℕ → Type 0 = λ r. IsLawfulState (begun_in (counted s) r) → HasInside (Some e) (Some b) (begun_in (counted s) r) in
-    let fresh : b ≡ fresh_block (counted s) = is ∙ (λ i. record { plan = record { start = graph_is e s h.network i; lo = length (h.network.stands.outline.vertices i); stars = [] }; asks = [] }) in
+    let F : Option ℕ → Type 0 =
+    λ r. IsLawfulState (begun_in (counted s) r) → HasInside (Some e) (Some b) (begun_in (counted s) r) in
+    let fresh : b ≡ fresh_block (counted s) =
+    is ∙ (λ i. record {
+      plan = record
+          { start = graph_is e s h.network i; lo = length (h.network.stands.outline.vertices i); stars = [] };
+      asks = [];
+    }) in
     subst F (sym readers) (λ l. record {
-      network = record { vertices = h.network.vertices; smooth = h.network.smooth; stands = h.network.stands; few = omega (arith, h.network.few) };
+      network =
+          record {
+            vertices = h.network.vertices;
+            smooth = h.network.smooth;
+            stands = h.network.stands;
+            few = omega
+                (arith, h.network.few);
+          };
       block = ap Some fresh;
       asks = omega arith;
       lawful = l;
     }) lawful
 
-pub begun_when : (seen : Option EngineSeen) (open_block : Option Block) (e : EngineSeen) (b : Block) (s : State) (l : Line) (readers : Option ℕ) (start : Graph) (lo : ℕ) → l ≡ line.Block → seen ≡ Some e → is_some readers ≡ true → readers ≡ s.readers → b ≡ record { plan = record { start = start; lo = lo; stars = [] }; asks = [] } → start ≡ e.graph → lo ≡ length e.vertices → FitsContext (context_at (vertices_in seen) readers open_block) l → HasInside seen open_block s → HasInside (Some e) (Some b) (accepted (counted s) l)
+pub begun_when : (seen : Option EngineSeen) (open_block : Option Block) (e : EngineSeen) (b : Block) (s : State)
+    (l : Line) (readers : Option ℕ) (start : Graph) (lo : ℕ) → l ≡ line.Block → seen ≡ Some e → is_some readers ≡ true
+    → readers ≡ s.readers → b ≡ record { plan = record { start = start; lo = lo; stars = [] }; asks = [] }
+    → start ≡ e.graph → lo ≡ length e.vertices → FitsContext (context_at (vertices_in seen) readers open_block) l
+    → HasInside seen open_block s → HasInside (Some e) (Some b) (accepted (counted s) l)
 begun_when seen open_block e b s l readers start lo is se live told fresh graph number fits h =
     let F : Option EngineSeen → Type 0 = λ z. HasInside z open_block s in
     let G : Option EngineSeen → Type 0 = λ z. FitsContext (context_at (vertices_in z) readers open_block) l in
@@ -275,21 +424,30 @@ begun_when seen open_block e b s l readers start lo is se live told fresh graph 
     same : b ≡ record { plan = record { start = e.graph; lo = length e.vertices; stars = [] }; asks = [] }
     same = fresh ∙ (λ i. record { plan = record { start = graph i; lo = number i; stars = [] }; asks = [] })
 
-    at : (rd : Option ℕ) → rd ≡ s.readers → is_some rd ≡ true → HasInside (Some e) open_block s → FitsContext (context_at (vertices_in (Some e)) readers open_block) line.Block → HasInside (Some e) (Some b) (accepted (counted s) line.Block)
+    at : (rd : Option ℕ) → rd ≡ s.readers → is_some rd ≡ true → HasInside (Some e) open_block s
+        → FitsContext (context_at (vertices_in (Some e)) readers open_block) line.Block
+        → HasInside (Some e) (Some b) (accepted (counted s) line.Block)
     at None k l h f = absurd (let no : false ≡ true = l in cc)
-    at (Some n) k l h f = begun e b open_block s n h (sym k) same (lawful_then (Some e) open_block readers s line.Block h f)
+    at (Some n) k l h f =
+        begun e b open_block s n h (sym k) same (lawful_then (Some e) open_block readers s line.Block h f)
 
-pub not_begun : (seen : Option EngineSeen) (open_block : Option Block) (s : State) → HasInside seen open_block s → s.readers ≡ None → HasInside seen open_block (accepted (counted s) line.Block)
+pub not_begun : (seen : Option EngineSeen) (open_block : Option Block) (s : State) → HasInside seen open_block s
+    → s.readers ≡ None → HasInside seen open_block (accepted (counted s) line.Block)
 not_begun seen open_block s h none =
     let F : Option ℕ → Type 0 = λ r. HasInside seen open_block (begun_in (counted s) r) in
     subst F (sym none) (counted_inside seen open_block s h)
 
 -- what a run of a block leaves, and what it replies
-pub ran_stands : {E : Type 0} (r : Result (List Answer) E) (n : ℕ) (before after : EngineSeen) (s : State) (b : Block) → HasInside (Some before) (Some b) s → HasRun n before b.plan b.asks r after → IfOk r (λ _. HasInside (Some after) None (accepted (counted s) line.End))
+pub ran_stands : {E : Type 0} (r : Result (List Answer) E) (n : ℕ) (before after : EngineSeen) (s : State) (b : Block)
+    → HasInside (Some before) (Some b) s → HasRun n before b.plan b.asks r after
+    → IfOk r (λ _. HasInside (Some after) None (accepted (counted s) line.End))
 ran_stands (Err e) n before after s b h run = tt
 ran_stands (Ok a) n before after s b h run = block_ran before after s b h run.taken
 
-pub ran_replies : {E : Type 0} (r : Result (List Answer) E) (n : ℕ) (readers : Option ℕ) (before after : EngineSeen) (s : State) (b : Block) → HasInside (Some before) (Some b) s → readers ≡ Some n → HasRun n before b.plan b.asks r after → IfOk r (λ answers. HasBlockReply readers s.block (flat_map answer_text answers))
+pub ran_replies : {E : Type 0} (r : Result (List Answer) E) (n : ℕ) (readers : Option ℕ) (before after : EngineSeen)
+    (s : State) (b : Block) → HasInside (Some before) (Some b) s → readers ≡ Some n
+    → HasRun n before b.plan b.asks r after
+    → IfOk r (λ answers. HasBlockReply readers s.block (flat_map answer_text answers))
 ran_replies (Err e) n readers before after s b h some run = tt
 ran_replies (Ok a) n readers before after s b h some run =
     let F : Option ℕ → Type 0 = λ r. HasBlockReply r s.block (flat_map answer_text a) in
@@ -303,7 +461,11 @@ can_run e s b h =
     let k : IsBlockOf s.vertices s.commands b = subst F (sym h.block) h.lawful.block in
     record {
       not_spent = h.network.stands.not_spent;
-      start = record { graph = graph_is e s h.network ∙ sym k.start; number = ap length h.network.stands.outline.vertices ∙ sym k.lo };
+      start = record {
+        graph = graph_is e s h.network
+            ∙ sym k.start;
+        number = ap length h.network.stands.outline.vertices ∙ sym k.lo;
+      };
       asks_of = k.asks;
     }
 
@@ -314,15 +476,20 @@ some_readers seen b s h = at s.readers refl
     at None e = absurd (let k : Some b ≡ None = h.block ∙ h.lawful.live e in cc)
     at (Some n) e = refl
 
-pub inside_as : (seen : Option EngineSeen) (open_block : Option Block) (e : EngineSeen) (b : Block) (s : State) → seen ≡ Some e → open_block ≡ Some b → HasInside seen open_block s → HasInside (Some e) (Some b) s
+pub inside_as : (seen : Option EngineSeen) (open_block : Option Block) (e : EngineSeen) (b : Block) (s : State)
+    → seen ≡ Some e → open_block ≡ Some b → HasInside seen open_block s → HasInside (Some e) (Some b) s
 inside_as seen open_block e b s se ob h =
     let F : Option EngineSeen → Type 0 = λ z. HasInside z open_block s in
     let G : Option Block → Type 0 = λ o. HasInside (Some e) o s in
     subst G ob (subst F se h)
 
 -- the end of a block, where the session before it is that of some state
-module _ {E : Type 0} (r : Result (List Answer) E) (seen : Option EngineSeen) (open_block : Option Block) (readers : Option ℕ) (before after : EngineSeen) (b : Block) (s0 s : State) (was : HasInside seen open_block s0) (told : s0.readers ≡ readers) (se : seen ≡ Some before) (ob : open_block ≡ Some b) (run : (x : ℕ) → readers ≡ Some x → HasRun x before b.plan b.asks r after) (h : HasInside seen open_block s) where
-  pub end_stands : (left : Option Block) → left ≡ None → IfOk r (λ _. HasInside (Some after) left (accepted (counted s) line.End))
+module _ {E : Type 0} (r : Result (List Answer) E) (seen : Option EngineSeen) (open_block : Option Block)
+    (readers : Option ℕ) (before after : EngineSeen) (b : Block) (s0 s : State) (was : HasInside seen open_block s0)
+    (told : s0.readers ≡ readers) (se : seen ≡ Some before) (ob : open_block ≡ Some b)
+    (run : (x : ℕ) → readers ≡ Some x → HasRun x before b.plan b.asks r after) (h : HasInside seen open_block s) where
+  pub end_stands : (left : Option Block) → left ≡ None
+      → IfOk r (λ _. HasInside (Some after) left (accepted (counted s) line.End))
   end_stands left none = at readers refl
     where
       at : (rd : Option ℕ) → readers ≡ rd → IfOk r (λ _. HasInside (Some after) left (accepted (counted s) line.End))
@@ -334,34 +501,46 @@ module _ {E : Type 0} (r : Result (List Answer) E) (seen : Option EngineSeen) (o
   pub end_replies : IfOk r (λ answers. HasBlockReply readers s.block (flat_map answer_text answers))
   end_replies = at readers refl
     where
-      at : (rd : Option ℕ) → readers ≡ rd → IfOk r (λ answers. HasBlockReply readers s.block (flat_map answer_text answers))
+      at : (rd : Option ℕ) → readers ≡ rd
+          → IfOk r (λ answers. HasBlockReply readers s.block (flat_map answer_text answers))
       at None e = absurd (let k : Some b ≡ None = sym ob ∙ was.block ∙ was.lawful.live (told ∙ e) in cc)
-      at (Some n) e = ran_replies r n readers before after s b (inside_as seen open_block before b s se ob h) e (run n e)
+      at (Some n) e =
+          ran_replies r n readers before after s b (inside_as seen open_block before b s se ob h) e (run n e)
 
 -- what the open block needs to know of a line
-pub block_vertices : (seen : Option EngineSeen) (open_block : Option Block) (e : EngineSeen) (b : Block) (s : State) → seen ≡ Some e → open_block ≡ Some b → HasInside seen open_block s → (last_graph b.plan).vertices ≡ e.opening
+pub block_vertices : (seen : Option EngineSeen) (open_block : Option Block) (e : EngineSeen) (b : Block) (s : State)
+    → seen ≡ Some e → open_block ≡ Some b → HasInside seen open_block s
+    → (last_graph b.plan).vertices ≡ e.graph.vertices
 block_vertices seen open_block e b s se ob was =
     let h = inside_as seen open_block e b s se ob was in
     let F : Option Block → Type 0 = λ o. (graph_here s o).vertices ≡ s.vertices in
-    subst F (sym h.block) (here_vertices s h.lawful) ∙ h.network.vertices
+    subst F (sym h.block) (here_vertices s h.lawful) ∙ sym (present_is e s h.network h.lawful.commands)
 
-pub fits_in : (seen : Option EngineSeen) (open_block : Option Block) (readers : Option ℕ) (e : EngineSeen) (b : Block) (l : Line) → seen ≡ Some e → open_block ≡ Some b → (last_graph b.plan).vertices ≡ e.opening → FitsContext (context_at (vertices_in seen) readers open_block) l → FitsContext (context_at (last_graph b.plan).vertices readers (Some b)) l
+pub fits_in : (seen : Option EngineSeen) (open_block : Option Block) (readers : Option ℕ) (e : EngineSeen) (b : Block)
+    (l : Line) → seen ≡ Some e → open_block ≡ Some b → (last_graph b.plan).vertices ≡ e.graph.vertices
+    → FitsContext (context_at (vertices_in seen) readers open_block) l
+    → FitsContext (context_at (last_graph b.plan).vertices readers (Some b)) l
 fits_in seen open_block readers e b l se ob same f =
     let F : Option EngineSeen → Type 0 = λ z. FitsContext (context_at (vertices_in z) readers open_block) l in
-    let G : Option Block → Type 0 = λ o. FitsContext (context_at e.opening readers o) l in
+    let G : Option Block → Type 0 = λ o. FitsContext (context_at e.graph.vertices readers o) l in
     let H : ℕ → Type 0 = λ n. FitsContext (context_at n readers (Some b)) l in
     subst H (sym same) (subst G ob (subst F se f))
 
-pub lawful_at : (seen : EngineSeen) (open_block : Option Block) (readers : Option ℕ) (s : State) (l : Line) → HasInside (Some seen) open_block s → FitsContext (context_at seen.opening readers open_block) l → IsLawfulState (accepted (counted s) l)
+pub lawful_at : (seen : EngineSeen) (open_block : Option Block) (readers : Option ℕ) (s : State) (l : Line)
+    → HasInside (Some seen) open_block s → FitsContext (context_at seen.graph.vertices readers open_block) l
+    → IsLawfulState (accepted (counted s) l)
 lawful_at seen open_block readers s l h f = lawful_then (Some seen) open_block readers s l h f
 
-pub lawful_inside : (e : EngineSeen) (b : Block) (readers : Option ℕ) (s : State) (l : Line) → HasInside (Some e) (Some b) s → FitsContext (context_at (last_graph b.plan).vertices readers (Some b)) l → IsLawfulState (accepted (counted s) l)
+pub lawful_inside : (e : EngineSeen) (b : Block) (readers : Option ℕ) (s : State) (l : Line)
+    → HasInside (Some e) (Some b) s → FitsContext (context_at (last_graph b.plan).vertices readers (Some b)) l
+    → IsLawfulState (accepted (counted s) l)
 lawful_inside e b readers s l h f =
     let F : ℕ → Type 0 = λ n. FitsContext (context_at n readers (Some b)) l in
     lawful_then (Some e) (Some b) readers s l h (subst F (block_vertices (Some e) (Some b) e b s refl refl h) f)
 
 -- the plan of the open block has room for one update more
-pub room_in : (seen : Option EngineSeen) (open_block : Option Block) (e : EngineSeen) (b : Block) (s : State) → seen ≡ Some e → open_block ≡ Some b → HasInside seen open_block s → s.lines < 2 ^ 40 → hi_of b.plan < 2 ^ 40
+pub room_in : (seen : Option EngineSeen) (open_block : Option Block) (e : EngineSeen) (b : Block) (s : State)
+    → seen ≡ Some e → open_block ≡ Some b → HasInside seen open_block s → s.lines < 2 ^ 40 → hi_of b.plan < 2 ^ 40
 room_in seen open_block e b s se ob was few_lines =
     let h = inside_as seen open_block e b s se ob was in
     let F : Option Block → Type 0 = λ o. IfSome o (IsBlockOf s.vertices s.commands) in
@@ -371,7 +550,8 @@ room_in seen open_block e b s se ob was few_lines =
     omega (arith, few, few_lines, ap length h.network.stands.outline.vertices, k.lo)
 
 -- a line that fits in a block has no reply
-pub silent_inside : (n m : ℕ) (smooth : Bool) (commands : List Command) (readers : Option ℕ) (b : Block) (l : Line) → FitsContext (context_at n readers (Some b)) l → HasReply m smooth commands l []
+pub silent_inside : (n m : ℕ) (smooth : Bool) (commands : List Command) (readers : Option ℕ) (b : Block) (l : Line)
+    → FitsContext (context_at n readers (Some b)) l → HasReply m smooth commands l []
 silent_inside n m smooth commands readers b line.Nothing f = refl
 silent_inside n m smooth commands readers b (line.Vertices k) f = refl
 silent_inside n m smooth commands readers b (line.Star star) f = refl
@@ -388,13 +568,16 @@ silent_inside n m smooth commands readers b (line.Ask x y since) f = refl
 silent_inside n m smooth commands readers b line.End f = refl
 
 -- what is said of the network's number of vertices and smoothing holds of those of the state
-pub of_network : {E : Type 0} (r : Result (Unit {0}) E) (P : ℕ → Bool → List ℕ → Type 0) (e : EngineSeen) (s : State) (old new : List ℕ) → IsNetworkOf e s → OnOk r (GrowsBy (P e.opening e.smooth) old new) → OnOk r (GrowsBy (P s.vertices s.smooth) old new)
+pub of_network : {E : Type 0} (r : Result (Unit {0}) E) (P : ℕ → Bool → List ℕ → Type 0) (e : EngineSeen) (s : State)
+    (old new : List ℕ) → IsNetworkOf e s → OnOk r (GrowsBy (P e.opening e.smooth) old new)
+    → OnOk r (GrowsBy (P s.vertices s.smooth) old new)
 of_network r P e s old new h grows =
     let F : ℕ → Type 0 = λ n. OnOk r (GrowsBy (P n e.smooth) old new) in
     let G : Bool → Type 0 = λ b. OnOk r (GrowsBy (P s.vertices b) old new) in
     subst G h.smooth (subst F (sym h.vertices) grows)
 
 -- a text grows by a reply that is empty
-pub grows_by_none : {E : Type 0} (r : Result (Unit {0}) E) (P : List ℕ → Type 0) (text : List ℕ) → P [] → OnOk r (GrowsBy P text text)
+pub grows_by_none : {E : Type 0} (r : Result (Unit {0}) E) (P : List ℕ → Type 0) (text : List ℕ) → P []
+    → OnOk r (GrowsBy P text text)
 grows_by_none (Err e) P text h = tt
 grows_by_none (Ok u) P text h = ([], h, sym (append-nil text))

@@ -92,7 +92,7 @@ pub record HasInside (seen : Option EngineSeen) (open_block : Option Block) (s :
 
 abbrev pub vertices_in : Option EngineSeen → ℕ
 vertices_in None = 0
-vertices_in (Some e) = e.opening
+vertices_in (Some e) = e.graph.vertices
 
 -- memory never ran out, and one more update may be made
 abbrev pub CanBeUpdated : Option EngineSeen → Type 0

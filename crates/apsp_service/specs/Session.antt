@@ -1,7 +1,7 @@
 -- The session: what is replied to the lines of an input, and with which status it ends.
 use Rattle.std.specs.Prelude.{◌≡◌, ℕ, ◌+◌, Bool, true, false, List, [], ◌∷◌, ◌++◌, length, is_some, ◌||◌, Option, Some, None, Result, Ok, Err, if◌then◌else◌}
 use Rattle.std.specs.List.{flat_map}
-use Rattle.apsp_model.specs.Command.{Command, Update, graph_of, vertices_of}
+use Rattle.apsp_model.specs.Command.{Command, Star_update, graph_of, vertices_of}
 use Rattle.apsp_model.specs.Graph.{Graph}
 use Rattle.apsp_model.specs.Star.{Star}
 use Rattle.script_reader.specs.Input.{lines_of, whole_lines}
@@ -74,7 +74,7 @@ graph_here s (Some b) = last_graph b.plan
 
 -- an update outside a block is a command, and in a block it is put behind the plan
 abbrev pub updated_in : State → Option Block → Star → State
-updated_in s None star = record s { commands = Update star ∷ s.commands }
+updated_in s None star = record s { commands = Star_update star ∷ s.commands }
 updated_in s (Some b) star = record s { block = Some (record b { plan = with_star b.plan star }) }
 
 abbrev pub updated : State → Star → State
@@ -97,7 +97,7 @@ asked_in s (Some b) ask = record s { block = Some (record b { asks = b.asks ++ a
 -- the commands with the updates of these stars behind them
 abbrev pub with_updates : List Star → List Command → List Command
 with_updates [] commands = commands
-with_updates (star ∷ stars) commands = with_updates stars (Update star ∷ commands)
+with_updates (star ∷ stars) commands = with_updates stars (Star_update star ∷ commands)
 
 -- a block that is run appends its updates to the commands, whatever was answered
 abbrev pub ended_in : State → Option Block → State

@@ -424,7 +424,7 @@ fn execute_outside_block<R: Threads + Sync, G: Gate, B: Blocks>(
     text: &mut String,
     line: Line,
 ) -> Result<(), AllocError>
-    requires fits { (readers : Option ℕ) × FitsContext (context_at network.old.opening readers None) line }
+    requires fits { (readers : Option ℕ) × FitsContext (context_at network.old.graph.vertices readers None) line }
     requires goes_on { (n : ℕ) → line ≡ Line.Vertices n → ⊥ }
     requires text_alone { line ≡ Line.Cert → ⊥ }
     requires no_begin { line ≡ Line.Block → ⊥ }

@@ -29,7 +29,9 @@ found_by g x y d list dist walk = record {
   is = walk.is;
 }
 
-seen_from : (plan : Plan) (v : VersionSeen) (ask : Ask) (least : ℕ) (reader : BlockReader) → IsOfPlan plan v → v.number ≡ reader.reader.mark.number → (a : Answer) → IsAnswerFrom v ask least a → IsAnswerSeen plan ask least reader a
+seen_from : (plan : Plan) (v : VersionSeen) (ask : Ask) (least : ℕ) (reader : BlockReader) → IsOfPlan plan v
+    → v.number ≡ reader.reader.mark.number → (a : Answer) → IsAnswerFrom v ask least a
+    → IsAnswerSeen plan ask least reader a
 seen_from plan v ask least reader of number a from = record {
   number = from.number ∙ number;
   not_older = from.not_older;
@@ -38,14 +40,18 @@ seen_from plan v ask least reader of number a from = record {
     y = from.y;
     from_since = since;
     to_hi = subst (λ n. n ≤ hi_of plan) (sym from.number) of.to_hi;
-    found = subst (λ g. IsFound g ask.x ask.y a.dist a.walk) (of.graph ∙ ap (plan_graph plan) (sym from.number)) from.found;
+    found = subst (λ g. IsFound g ask.x ask.y a.dist a.walk) (of.graph ∙ ap (plan_graph plan) (sym from.number))
+        from.found;
   };
 }
 
 -- an answer from a version that is held
-pub if_seen_from : {E : Type 0} (plan : Plan) (v held : VersionSeen) (ask : Ask) (least : ℕ) (reader : BlockReader) → v ≡ held → IsOfPlan plan held → held.number ≡ reader.reader.mark.number
-    → (r : Result (Option Answer) E) → IfOk r (λ found. IfSome found (IsAnswerFrom v ask least)) → IfOk r (λ found. IfSome found (IsAnswerSeen plan ask least reader))
-if_seen_from plan v held ask least reader same of number (Ok (Some a)) from = seen_from plan held ask least reader of number a (subst (λ (w : VersionSeen). IsAnswerFrom w ask least a) same from)
+pub if_seen_from : {E : Type 0} (plan : Plan) (v held : VersionSeen) (ask : Ask) (least : ℕ) (reader : BlockReader)
+    → v ≡ held → IsOfPlan plan held → held.number ≡ reader.reader.mark.number
+    → (r : Result (Option Answer) E) → IfOk r (λ found. IfSome found (IsAnswerFrom v ask least))
+    → IfOk r (λ found. IfSome found (IsAnswerSeen plan ask least reader))
+if_seen_from plan v held ask least reader same of number (Ok (Some a)) from =
+    seen_from plan held ask least reader of number a (subst (λ (w : VersionSeen). IsAnswerFrom w ask least a) same from)
 if_seen_from plan v held ask least reader same of number (Ok None) from = tt
 if_seen_from plan v held ask least reader same of number (Err e) from = tt
 

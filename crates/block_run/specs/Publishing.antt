@@ -12,7 +12,6 @@ pub record CanPublish (pool : Pool) (publisher : Publisher) (e : EngineSeen) (pl
   pub announced : publisher.mark.number ≡ plan.lo
   pub not_spent : e.spent ≡ false
   pub start : IsStartOf plan e
-  pub opening : e.opening ≡ plan.start.vertices
 
 -- what the engine answers now is the plan's version behind this number
 pub record IsNextOf (plan : Plan) (number : ℕ) (e : EngineSeen) : Type 0 where

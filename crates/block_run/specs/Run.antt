@@ -1,7 +1,7 @@
 -- What a block does to the engine.
 use Rattle.std.specs.Prelude.{◌≡◌, ◌⊎◌, ℕ, ◌≤◌, List, [], ◌∷◌, length, take, All, Result, IfOk, OnOk, OnErr, false}
 use Rattle.apsp_model.specs.Star.{Star}
-use Rattle.apsp_model.specs.Command.{Update}
+use Rattle.apsp_model.specs.Command.{Star_update}
 use Rattle.graph_store.specs.Plan.{Plan}
 use Rattle.history_engine.specs.Seen.{EngineSeen}
 use Rattle.history_engine.specs.Advance.{Advance}
@@ -14,7 +14,7 @@ use Rattle.block_run.specs.Answers.{IsAskOf, BlockReply}
 abbrev pub AdvancesBy : EngineSeen → List Star → EngineSeen → Type 0
 AdvancesBy before [] after = after ≡ before
 AdvancesBy before (star ∷ stars) after =
-    (between : EngineSeen) × Advance before (Update star) between × AdvancesBy between stars after
+    (between : EngineSeen) × Advance before (Star_update star) between × AdvancesBy between stars after
 
 -- the engine took the first ones of these updates, and may be spent since
 pub record IsCutOff (before : EngineSeen) (stars : List Star) (after : EngineSeen) : Type 0 where
@@ -42,3 +42,4 @@ pub record HasRun {E : Type 0} (readers : ℕ) (before : EngineSeen) (plan : Pla
   pub taken : OnOk result (AdvancesBy before plan.stars after)
   pub memory : OnErr result (IsCutOff before plan.stars after)
   pub opening : after.opening ≡ before.opening
+  pub vertices : after.graph.vertices ≡ before.graph.vertices

@@ -56,6 +56,7 @@ pub fn live_block<R: Threads + Wait + Sync, G: Gate>(
     ensures taken { OnOk result (AdvancesBy engine.old plan.now.stars engine.new) }
     ensures memory { OnErr result (IsCutOff engine.old plan.now.stars engine.new) }
     ensures opening { engine.new.opening ≡ engine.old.opening }
+    ensures vertices { engine.new.graph.vertices ≡ engine.old.graph.vertices }
 {
     let mut first = Version::new(alloc, engine.graph().vertices()).map_err(|_| Memory)?;
     engine.fill(&mut first);

@@ -11,15 +11,18 @@ use Rattle.cert_check.specs.Pairs.{RowPasses, RowsPass}
 -- a pair that fails a test does not pass
 pub fails_not_passes : (s : Stated) (x y : ℕ) (r : Reason) → FailsFirst s x y r → Passes s x y → ⊥
 fails_not_passes s x y Step h p =
-    let F : Option Entry → Type 0 = λ o. MatchOption o (NoneMissing s x y) (λ e. StepHolds s x y e × NoSmaller s x y e) in
+    let F : Option Entry → Type 0 =
+    λ o. MatchOption o (NoneMissing s x y) (λ e. StepHolds s x y e × NoSmaller s x y e) in
     let there : StepHolds s x y h.0 × NoSmaller s x y h.0 = subst F h.1 p in
     h.2 there.0
 fails_not_passes s x y Smaller h p =
-    let F : Option Entry → Type 0 = λ o. MatchOption o (NoneMissing s x y) (λ e. StepHolds s x y e × NoSmaller s x y e) in
+    let F : Option Entry → Type 0 =
+    λ o. MatchOption o (NoneMissing s x y) (λ e. StepHolds s x y e × NoSmaller s x y e) in
     let there : StepHolds s x y h.0 × NoSmaller s x y h.0 = subst F h.1 p in
     h.3 there.1
 fails_not_passes s x y Missing h p =
-    let F : Option Entry → Type 0 = λ o. MatchOption o (NoneMissing s x y) (λ e. StepHolds s x y e × NoSmaller s x y e) in
+    let F : Option Entry → Type 0 =
+    λ o. MatchOption o (NoneMissing s x y) (λ e. StepHolds s x y e × NoSmaller s x y e) in
     let there : NoneMissing s x y = subst F h.0 p in
     h.1 there
 
@@ -35,7 +38,8 @@ more_rows s k h row = record {
 }
 
 -- a failing pair, where the rows before and its own row up to it pass
-pub first_failing : (s : Stated) (x y : ℕ) (r : Reason) → RowsPass s x → x < s.graph.vertices → y < s.graph.vertices → x ≢ y → FailsFirst s x y r → RowPasses s x y → IsFirstFailing s x y r
+pub first_failing : (s : Stated) (x y : ℕ) (r : Reason) → RowsPass s x → x < s.graph.vertices → y < s.graph.vertices
+    → x ≢ y → FailsFirst s x y r → RowPasses s x y → IsFirstFailing s x y r
 first_failing s x y r h from to apart fails row = record {
   from = from;
   to = to;
@@ -47,7 +51,8 @@ first_failing s x y r h from to apart fails row = record {
   ];
 }
 
-pub not_lawful : (s : Stated) (x y : ℕ) (r : Reason) → (PassesAll s ↔ IsLawful s) → x < s.graph.vertices → y < s.graph.vertices → x ≢ y → FailsFirst s x y r → IsLawful s → ⊥
+pub not_lawful : (s : Stated) (x y : ℕ) (r : Reason) → (PassesAll s ↔ IsLawful s) → x < s.graph.vertices
+    → y < s.graph.vertices → x ≢ y → FailsFirst s x y r → IsLawful s → ⊥
 not_lawful s x y r law from to apart fails lawful = fails_not_passes s x y r fails (law.1 lawful x y from to apart)
 
 pub lawful : (s : Stated) (k : ℕ) → (PassesAll s ↔ IsLawful s) → RowsPass s k → s.graph.vertices ≤ k → IsLawful s

@@ -30,7 +30,8 @@ module _ (s : Stated) (x y : ℕ) where
   way_over : (u : ℕ) → WayOver u ⊎ NoWayOver u
   way_over u = at (weight_at s.graph x u) refl (entry_at s u y) refl
     where
-      at : (o : Option ℕ) → weight_at s.graph x u ≡ o → (r : Option Entry) → entry_at s u y ≡ r → WayOver u ⊎ NoWayOver u
+      at : (o : Option ℕ) → weight_at s.graph x u ≡ o → (r : Option Entry) → entry_at s u y ≡ r → WayOver u
+          ⊎ NoWayOver u
       at None a r b = inr (λ w d way. let e : Some w ≡ None = sym way.edge ∙ a in cc)
       at (Some w) a None b = inr (λ v d way. let e : Some d ≡ None = sym way.rest ∙ b in cc)
       at (Some w) a (Some d) b = inl (w, d, record { edge = a; rest = b })
@@ -64,7 +65,8 @@ module _ (s : Stated) (x y : ℕ) where
   is_less Equal = inr (λ e. cc)
   is_less Greater = inr (λ e. cc)
 
-  smaller_over : (e : Entry) (u : ℕ) → ((w : ℕ) × (d : Entry) × IsWay s x u y w d × MakesLess e u w d) ⊎ ((w : ℕ) (d : Entry) → IsWay s x u y w d → MakesLess e u w d → ⊥)
+  smaller_over : (e : Entry) (u : ℕ) → ((w : ℕ) × (d : Entry) × IsWay s x u y w d × MakesLess e u w d)
+      ⊎ ((w : ℕ) (d : Entry) → IsWay s x u y w d → MakesLess e u w d → ⊥)
   smaller_over e u = elim (way_over u) [
     | inr none ↦ inr (λ w d way less. none w d way)
     | inl found ↦ elim (is_less (entry_cmp (through u found.0 found.1) e)) [
@@ -72,11 +74,13 @@ module _ (s : Stated) (x y : ℕ) where
       | inr not_less ↦ inr (λ w d way less.
           let F : ℕ → Type 0 = λ v. MakesLess e u v found.1 in
           let G : Entry → Type 0 = λ c. MakesLess e u w c in
-          not_less (subst F (one_weight u w found.0 d found.1 way found.2) (subst G (one_rest u w found.0 d found.1 way found.2) less)))
+          not_less (subst F (one_weight u w found.0 d found.1 way found.2)
+          (subst G (one_rest u w found.0 d found.1 way found.2) less)))
     ]
   ]
 
-  some_smaller : (e : Entry) (k : ℕ) → ((u : ℕ) × (w : ℕ) × (d : Entry) × IsWay s x u y w d × MakesLess e u w d) ⊎ ((u w : ℕ) (d : Entry) → u < k → IsWay s x u y w d → MakesLess e u w d → ⊥)
+  some_smaller : (e : Entry) (k : ℕ) → ((u : ℕ) × (w : ℕ) × (d : Entry) × IsWay s x u y w d × MakesLess e u w d)
+      ⊎ ((u w : ℕ) (d : Entry) → u < k → IsWay s x u y w d → MakesLess e u w d → ⊥)
   some_smaller e zero = inr (λ u w d p. absurd (omega (arith, p)))
   some_smaller e (suc k) = elim (smaller_over e k) [
     | inl f ↦ inl (k, f.0, f.1, f.2, f.3)
@@ -94,9 +98,12 @@ module _ (s : Stated) (x y : ℕ) where
   step_or_not e = elim (way_over e.next) [
     | inr none ↦ inr (λ h. none h.0 h.1 h.2)
     | inl found ↦ elim (cases_eq e.dist (found.0 + found.1.dist)) [
-      | inr other ↦ inr (λ h. other (ap (λ (c : Entry). c.dist) h.3 ∙ (λ i. one_weight e.next h.0 found.0 h.1 found.1 h.2 found.2 i + (one_rest e.next h.0 found.0 h.1 found.1 h.2 found.2 i).dist)))
+      | inr other ↦ inr (λ h. other (ap (λ (c : Entry). c.dist) h.3
+          ∙ (λ i. one_weight e.next h.0 found.0 h.1 found.1 h.2 found.2 i +
+          (one_rest e.next h.0 found.0 h.1 found.1 h.2 found.2 i).dist)))
       | inl dist ↦ elim (cases_eq e.hops (1 + found.1.hops)) [
-        | inr other ↦ inr (λ h. other (ap (λ (c : Entry). c.hops) h.3 ∙ (λ i. 1 + (one_rest e.next h.0 found.0 h.1 found.1 h.2 found.2 i).hops)))
+        | inr other ↦ inr (λ h. other (ap (λ (c : Entry). c.hops) h.3
+            ∙ (λ i. 1 + (one_rest e.next h.0 found.0 h.1 found.1 h.2 found.2 i).hops)))
         | inl hops ↦ inl (found.0, found.1, found.2, λ i. record { dist = dist i; hops = hops i; next = e.next })
       ]
     ]
@@ -114,9 +121,11 @@ PairOutcome s x y = Passes s x y ⊎ ((r : Reason) × FailsFirst s x y r)
 pair_outcome : (s : Stated) (x y : ℕ) → IsInRange s → PairOutcome s x y
 pair_outcome s x y range = at (entry_at s x y) refl
   where
-    passes_with : (o : Option Entry) → entry_at s x y ≡ o → MatchOption o (NoneMissing s x y) (λ e. StepHolds s x y e × NoSmaller s x y e) → Passes s x y
+    passes_with : (o : Option Entry) → entry_at s x y ≡ o
+        → MatchOption o (NoneMissing s x y) (λ e. StepHolds s x y e × NoSmaller s x y e) → Passes s x y
     passes_with o is h =
-        let F : Option Entry → Type 0 = λ r. MatchOption r (NoneMissing s x y) (λ e. StepHolds s x y e × NoSmaller s x y e) in
+        let F : Option Entry → Type 0 =
+        λ r. MatchOption r (NoneMissing s x y) (λ e. StepHolds s x y e × NoSmaller s x y e) in
         subst F (sym is) h
 
     at : (o : Option Entry) → entry_at s x y ≡ o → PairOutcome s x y
@@ -128,7 +137,8 @@ pair_outcome s x y range = at (entry_at s x y) refl
       | inr not ↦ inr (Step, (e, is, not))
       | inl step ↦ elim (some_smaller s x y e s.graph.vertices) [
         | inl found ↦ inr (Smaller, (e, is, step, λ none. none found.0 found.1 found.2 found.3 found.4))
-        | inr none ↦ inl (passes_with (Some e) is (step, λ u w d way less. none u w d (edge_inside s x u y w d range way) way less))
+        | inr none ↦ inl (passes_with (Some e) is
+            (step, λ u w d way less. none u w d (edge_inside s x u y w d range way) way less))
       ]
     ]
 
@@ -159,7 +169,8 @@ all_outcome s zero range below = inl (no_rows s)
 all_outcome s (suc k) range below = elim (all_outcome s k range (omega (arith, below))) [
   | inr f ↦ inr f
   | inl passes ↦ elim (row_outcome s k s.graph.vertices range) [
-    | inl row ↦ inl (let F : ℕ → Type 0 = λ j. RowsPass s j in let one : k + 1 ≡ suc k = omega arith in subst F one (more_rows s k passes row))
+    | inl row ↦ inl (let F : ℕ → Type 0 = λ j. RowsPass s j in let one : k + 1 ≡ suc k = omega arith in
+        subst F one (more_rows s k passes row))
     | inr f ↦ inr (k, f.0, f.1, first_failing s k f.0 f.1 passes (omega (arith, below)) f.2 f.3 f.4 f.5)
   ]
 ]
@@ -168,26 +179,44 @@ all_outcome s (suc k) range below = elim (all_outcome s k range (omega (arith, b
 
 pub verdict_exists : (s : Stated) → IsInRange s → (v : Verdict) × IsVerdict s v
 verdict_exists s range = elim (all_outcome s s.graph.vertices range (omega arith)) [
-  | inl passes ↦ (Yes s.number, (lawful s s.graph.vertices (passes_lawful s range, lawful_passes s range) passes (omega arith), refl))
-  | inr f ↦ (No f.0 f.1 f.2, (not_lawful s f.0 f.1 f.2 (passes_lawful s range, lawful_passes s range) f.3.from f.3.to f.3.apart f.3.fails, f.3))
+  | inl passes ↦ (
+    Yes s.number,
+    (
+      lawful s s.graph.vertices (passes_lawful s range, lawful_passes s range) passes
+          (omega arith),
+      refl,
+    ),
+  )
+  | inr f ↦ (
+    No f.0 f.1 f.2,
+    (
+      not_lawful s f.0 f.1 f.2 (passes_lawful s range, lawful_passes s range) f.3.from f.3.to
+          f.3.apart f.3.fails,
+      f.3,
+    ),
+  )
 ]
 
 same_reason : (s : Stated) (x y : ℕ) (r q : Reason) → FailsFirst s x y r → FailsFirst s x y q → r ≡ q
 same_reason s x y Step Step h k = refl
 same_reason s x y Smaller Smaller h k = refl
 same_reason s x y Missing Missing h k = refl
-same_reason s x y Step Smaller h k = absurd (h.2 (subst (λ e. StepHolds s x y e) (some_same k.0 h.0 (sym k.1 ∙ h.1)) k.2))
-same_reason s x y Smaller Step h k = absurd (k.2 (subst (λ e. StepHolds s x y e) (some_same h.0 k.0 (sym h.1 ∙ k.1)) h.2))
+same_reason s x y Step Smaller h k =
+    absurd (h.2 (subst (λ e. StepHolds s x y e) (some_same k.0 h.0 (sym k.1 ∙ h.1)) k.2))
+same_reason s x y Smaller Step h k =
+    absurd (k.2 (subst (λ e. StepHolds s x y e) (some_same h.0 k.0 (sym h.1 ∙ k.1)) h.2))
 same_reason s x y Step Missing h k = let e : Some h.0 ≡ None = sym h.1 ∙ k.0 in cc
 same_reason s x y Missing Step h k = let e : Some k.0 ≡ None = sym k.1 ∙ h.0 in cc
 same_reason s x y Smaller Missing h k = let e : Some h.0 ≡ None = sym h.1 ∙ k.0 in cc
 same_reason s x y Missing Smaller h k = let e : Some k.0 ≡ None = sym k.1 ∙ h.0 in cc
 
 -- of two first failing pairs none stands before the other
-not_before : (s : Stated) (x y a b : ℕ) (r q : Reason) → IsFirstFailing s x y r → IsFirstFailing s a b q → IsBefore x y a b → ⊥
+not_before : (s : Stated) (x y a b : ℕ) (r q : Reason) → IsFirstFailing s x y r → IsFirstFailing s a b q
+    → IsBefore x y a b → ⊥
 not_before s x y a b r q h k before = fails_not_passes s x y r h.fails (k.before x y h.from h.to h.apart before)
 
-same_failing : (s : Stated) (x y a b : ℕ) (r q : Reason) → IsFirstFailing s x y r → IsFirstFailing s a b q → No x y r ≡ No a b q
+same_failing : (s : Stated) (x y a b : ℕ) (r q : Reason) → IsFirstFailing s x y r → IsFirstFailing s a b q
+    → No x y r ≡ No a b q
 same_failing s x y a b r q h k =
     let from : x ≡ a = elim (cases_eq x a) [
       | inl same ↦ same

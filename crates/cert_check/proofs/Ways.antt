@@ -16,14 +16,16 @@ NoneSmaller s x y e ends k =
 abbrev pub NoWay : Stated → ℕ → ℕ → List ℕ → ℕ → Type 0
 NoWay s x y ends k = (i w : ℕ) (d : Stated_entry) → i < k → IsWay s x (slice_index ends i) y w d → ⊥
 
-pub none_smaller : (s : Stated) (x y n : ℕ) (e : Entry) (ends : List ℕ) → AreEnds s x n ends → NoneSmaller s x y e ends (length ends) → IsSmallerAnswer s x y e n false
+pub none_smaller : (s : Stated) (x y n : ℕ) (e : Entry) (ends : List ℕ) → AreEnds s x n ends
+    → NoneSmaller s x y e ends (length ends) → IsSmallerAnswer s x y e n false
 none_smaller s x y n e ends are none u w d p way less =
     let at = are.all u w p way.edge in
     let F : ℕ → Type 0 = λ j. IsWay s x j y w d in
     let G : ℕ → Type 0 = λ j. entry_cmp (through j w d) (stated e) ≡ Less in
     none at.0 w d at.1 (subst F (sym at.2) way) (subst G (sym at.2) less)
 
-pub no_way : (s : Stated) (x y n : ℕ) (ends : List ℕ) → AreEnds s x n ends → NoWay s x y ends (length ends) → IsMissingAnswer s x y n false
+pub no_way : (s : Stated) (x y n : ℕ) (ends : List ℕ) → AreEnds s x n ends → NoWay s x y ends (length ends)
+    → IsMissingAnswer s x y n false
 no_way s x y n ends are none u w d p way =
     let at = are.all u w p way.edge in
     let F : ℕ → Type 0 = λ j. IsWay s x j y w d in

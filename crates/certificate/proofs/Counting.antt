@@ -36,10 +36,16 @@ unfolding place
 place_within n q h =
     omega (arith, column_within n q h, mul-le (q.0 + 1) (n - 1) n (n - 1) (omega (arith, h.from)) (omega arith))
 
-place_rises : (n : ℕ) (p q : ℕ × ℕ) → ArePairEnds n p → ArePairEnds n q → rises (Some p) q ≡ true → place n p + 1 ≤ place n q
+place_rises : (n : ℕ) (p q : ℕ × ℕ) → ArePairEnds n p → ArePairEnds n q → rises (Some p) q ≡ true
+    → place n p + 1 ≤ place n q
 unfolding place
 place_rises n p q h k r = elim (cases_lt p.0 q.0) [
-  | inl below ↦ omega (arith, column_within n p h, mul-le (p.0 + 1) (n - 1) q.0 (n - 1) (omega (arith, below)) (omega arith))
+  | inl below ↦ omega (
+    arith,
+    column_within n p h,
+    mul-le (p.0 + 1) (n - 1) q.0 (n - 1) (omega (arith, below))
+        (omega arith),
+  )
   | inr other ↦
       let s = same_row p.0 p.1 q.0 q.1 r other in
       here p.0 p.1 q.0 q.1 s.0 s.1 h.apart k.apart
@@ -54,12 +60,14 @@ place_rises n p q h k r = elim (cases_lt p.0 q.0) [
         omega (arith, column_rises a b d x z l, ap (λ i. i * (n - 1) + column i d) e)
 
 module _ {V : Type 0} where
-  many_after : (n : ℕ) (p : ℕ × ℕ) (es : List ((ℕ × ℕ) × V)) → ArePairEnds n p → EachOf (λ e. ArePairEnds n e.0) es → Rising (Some p) es → place n p + 1 + length es ≤ n * (n - 1)
+  many_after : (n : ℕ) (p : ℕ × ℕ) (es : List ((ℕ × ℕ) × V)) → ArePairEnds n p → EachOf (λ e. ArePairEnds n e.0) es
+      → Rising (Some p) es → place n p + 1 + length es ≤ n * (n - 1)
   many_after n p [] h each rising = omega (arith, place_within n p h)
   many_after n p (e ∷ es) h each rising =
       omega (arith, place_rises n p e.0 h each.0 rising.0, many_after n e.0 es each.0 each.1 rising.1)
 
   -- rising pairs of different vertices are at most so many
-  pub few_pairs : (n : ℕ) (es : List ((ℕ × ℕ) × V)) → EachOf (λ e. ArePairEnds n e.0) es → Rising None es → length es ≤ n * (n - 1)
+  pub few_pairs : (n : ℕ) (es : List ((ℕ × ℕ) × V)) → EachOf (λ e. ArePairEnds n e.0) es → Rising None es
+      → length es ≤ n * (n - 1)
   few_pairs n [] each rising = omega arith
   few_pairs n (e ∷ es) each rising = omega (arith, many_after n e.0 es each.0 each.1 rising.1)

@@ -36,7 +36,9 @@ cut_parts c (b ∷ bs) front rest e = at (b == c) refl (λ f r h. cut_parts c bs
     here : (b == c) ≡ true → IsCutAt c (b ∷ bs) [] bs
     here t = let same : b ≡ c = grind (arith, nat_tests) in record { whole = ap (λ x. x ∷ bs) same; clean = refl }
 
-    moved : (o : Option (List ℕ × List ℕ)) → cut c bs ≡ o → (b == c) ≡ false → ((f r : List ℕ) → cut c bs ≡ Some (f, r) → IsCutAt c bs f r) → onto_front b o ≡ Some (front, rest) → IsCutAt c (b ∷ bs) front rest
+    moved : (o : Option (List ℕ × List ℕ)) → cut c bs ≡ o → (b == c) ≡ false
+        → ((f r : List ℕ) → cut c bs ≡ Some (f, r) → IsCutAt c bs f r) → onto_front b o ≡ Some (front, rest)
+        → IsCutAt c (b ∷ bs) front rest
     moved None is t again e = cc
     moved (Some p) is t again e =
         let parts = same_parts (b ∷ p.0) p.1 front rest e in
@@ -47,7 +49,8 @@ cut_parts c (b ∷ bs) front rest e = at (b == c) refl (λ f r h. cut_parts c bs
         } in
         subst (λ f. IsCutAt c (b ∷ bs) f rest) parts.0 (subst (λ r. IsCutAt c (b ∷ bs) (b ∷ p.0) r) parts.1 made)
 
-    at : (t : Bool) → (b == c) ≡ t → ((f r : List ℕ) → cut c bs ≡ Some (f, r) → IsCutAt c bs f r) → (if t then Some ([], bs) else onto_front b (cut c bs)) ≡ Some (front, rest) → IsCutAt c (b ∷ bs) front rest
+    at : (t : Bool) → (b == c) ≡ t → ((f r : List ℕ) → cut c bs ≡ Some (f, r) → IsCutAt c bs f r)
+        → (if t then Some ([], bs) else onto_front b (cut c bs)) ≡ Some (front, rest) → IsCutAt c (b ∷ bs) front rest
     at true t again e =
         let parts = same_parts [] bs front rest e in
         subst (λ f. IsCutAt c (b ∷ bs) f rest) parts.0 (subst (λ r. IsCutAt c (b ∷ bs) [] r) parts.1 (here t))
@@ -59,7 +62,8 @@ unfolding cut
 cut_again c [] rest h = ap (λ t. if t then Some ([], rest) else onto_front c (cut c rest)) (eq-eqb c c refl)
 cut_again c (b ∷ bs) rest h = at (b == c) (cut_again c bs rest) h
   where
-    at : (t : Bool) → (avoids c bs ≡ true → cut c (bs ++ c ∷ rest) ≡ Some (bs, rest)) → (not t && avoids c bs) ≡ true → cond t (Some ([], bs ++ c ∷ rest)) (onto_front b (cut c (bs ++ c ∷ rest))) ≡ Some (b ∷ bs, rest)
+    at : (t : Bool) → (avoids c bs ≡ true → cut c (bs ++ c ∷ rest) ≡ Some (bs, rest)) → (not t && avoids c bs) ≡ true
+        → cond t (Some ([], bs ++ c ∷ rest)) (onto_front b (cut c (bs ++ c ∷ rest))) ≡ Some (b ∷ bs, rest)
     at true again e = cc
     at false again e = ap (onto_front b) (again e)
 
@@ -70,7 +74,8 @@ pub avoids-append : (c : ℕ) (a b : List ℕ) → avoids c a ≡ true → avoid
 avoids-append c [] b h k = k
 avoids-append c (x ∷ a) b h k = at (not (x == c)) (λ e. avoids-append c a b e k) h
   where
-    at : (t : Bool) → (avoids c a ≡ true → avoids c (a ++ b) ≡ true) → (t && avoids c a) ≡ true → (t && avoids c (a ++ b)) ≡ true
+    at : (t : Bool) → (avoids c a ≡ true → avoids c (a ++ b) ≡ true) → (t && avoids c a) ≡ true
+        → (t && avoids c (a ++ b)) ≡ true
     at true again e = again e
     at false again e = cc
 
@@ -91,13 +96,19 @@ next_is : (k : ℕ) → suc k ≡ k + 1
 next_is k = omega arith
 
 -- a search that found the byte at k: the text is cut there
-pub cut_at : (c : ℕ) (s : List ℕ) (k : ℕ) → k < length s → ((j : ℕ) → j < k → (slice_index s j == c) ≡ true → ⊥) → (slice_index s k == c) ≡ true → cut c s ≡ Some (take k s, drop (k + 1) s)
+pub cut_at : (c : ℕ) (s : List ℕ) (k : ℕ) → k < length s → ((j : ℕ) → j < k → (slice_index s j == c) ≡ true → ⊥)
+    → (slice_index s k == c) ≡ true → cut c s ≡ Some (take k s, drop (k + 1) s)
 unfolding cut
 cut_at c [] k l before here = absurd (omega arith)
-cut_at c (b ∷ bs) zero l before here = ap (λ t. if t then Some ([], bs) else onto_front b (cut c bs)) here ∙ ap (λ n. Some ([], drop n (b ∷ bs))) (next_is zero)
-cut_at c (b ∷ bs) (suc k) l before here = at (b == c) refl (cut_at c bs k (omega (arith, l)) (λ j p. before (suc j) (omega (arith, p))) here)
+cut_at c (b ∷ bs) zero l before here =
+    ap (λ t. if t then Some ([], bs) else onto_front b (cut c bs)) here
+    ∙ ap (λ n. Some ([], drop n (b ∷ bs))) (next_is zero)
+cut_at c (b ∷ bs) (suc k) l before here =
+    at (b == c) refl (cut_at c bs k (omega (arith, l)) (λ j p. before (suc j) (omega (arith, p))) here)
   where
-    at : (t : Bool) → (b == c) ≡ t → cut c bs ≡ Some (take k bs, drop (k + 1) bs) → (if t then Some ([], bs) else onto_front b (cut c bs)) ≡ Some (take (suc k) (b ∷ bs), drop (suc k + 1) (b ∷ bs))
+    at : (t : Bool) → (b == c) ≡ t → cut c bs ≡ Some (take k bs, drop (k + 1) bs)
+        → (if t then Some ([], bs) else onto_front b (cut c bs)) ≡ Some
+        (take (suc k) (b ∷ bs), drop (suc k + 1) (b ∷ bs))
     at true t again = absurd (before zero (omega arith) t)
     at false t again = ap (onto_front b) again ∙ ap (λ n. Some (b ∷ take k bs, drop n (b ∷ bs))) (one_more k)
 

@@ -36,20 +36,24 @@ spelled (b ∷ bs) k e = at (is_number MOST_DIGITS (b ∷ bs)) refl e
         let bound : digits_value 10 (b ∷ bs) < 10 ^ length (b ∷ bs) = digits_value-lt 10 (b ∷ bs) test.digits in
         let power : 10 ^ length (b ∷ bs) ≤ 10 ^ 18 = pow-le-pow_right {n = 10} (omega arith) test.few in
         let small : digits_value 10 (b ∷ bs) < 10 ^ 18 = omega (arith, bound, power) in
-        let word : decimal (digits_value 10 (b ∷ bs)) ≡ b ∷ bs = decimal-digits_value own (b ∷ bs) test.digits (omega arith) test.first (omega (arith, small)) in
+        let word : decimal (digits_value 10 (b ∷ bs)) ≡ b ∷ bs =
+        decimal-digits_value own (b ∷ bs) test.digits (omega arith) test.first (omega (arith, small)) in
         record {
           word = sym word ∙ ap decimal same;
           small = omega (arith, small, same);
         }
 
-    at : (t : Bool) → is_number MOST_DIGITS (b ∷ bs) ≡ t → cond t (Some (digits_value 10 (b ∷ bs))) None ≡ Some k → IsSpelled (b ∷ bs) k
+    at : (t : Bool) → is_number MOST_DIGITS (b ∷ bs) ≡ t → cond t (Some (digits_value 10 (b ∷ bs))) None ≡ Some k
+        → IsSpelled (b ∷ bs) k
     at true t e = yes t (some_same _ _ e)
     at false t e = cc
 
-number_test : (w : List ℕ) → 0 < length w → length w ≤ 18 → (1 < length w → 48 < get_or w 0 0) → AllDigits 10 w → is_number MOST_DIGITS w ≡ true
+number_test : (w : List ℕ) → 0 < length w → length w ≤ 18 → (1 < length w → 48 < get_or w 0 0) → AllDigits 10 w
+    → is_number MOST_DIGITS w ≡ true
 number_test [] some few first d = absurd (omega arith)
 number_test (b ∷ bs) some few first d =
-    ap (λ t. nat_le (length (b ∷ bs)) MOST_DIGITS && ((length (b ∷ bs) == 1 || not (b == 48)) && t)) (all_tests (b ∷ bs) d)
+    ap (λ t. nat_le (length (b ∷ bs)) MOST_DIGITS && ((length (b ∷ bs) == 1 || not (b == 48)) && t))
+    (all_tests (b ∷ bs) d)
     ∙ at (length (b ∷ bs)) (omega (arith, some)) few first
   where
     at : (l : ℕ) → 0 < l → l ≤ 18 → (1 < l → 48 < b) → (nat_le l 18 && ((l == 1 || not (b == 48)) && true)) ≡ true
@@ -79,7 +83,8 @@ pub read_again : (k : ℕ) → k < 10 ^ 18 → number_of MOST_DIGITS (decimal k)
 read_again k small =
     let wide : k < 2 ^ 64 = omega (arith, small) in
     let word = word_of k small in
-    let test : is_number MOST_DIGITS (decimal k) ≡ true = number_test (decimal k) word.some word.few (first k wide) word.digits in
+    let test : is_number MOST_DIGITS (decimal k) ≡ true =
+    number_test (decimal k) word.some word.few (first k wide) word.digits in
     sym (number_is MOST_DIGITS (decimal k) k test (sym (digits_value-decimal own k wide)))
   where
     first : (k : ℕ) → k < 2 ^ 64 → 1 < length (decimal k) → 48 < get_or (decimal k) 0 0

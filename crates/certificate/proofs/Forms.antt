@@ -2,7 +2,7 @@
 use Rattle.std.specs.Prelude.{◌≡◌, ◌≢◌, ℕ, ◌-◌, ◌<◌, ◌≤◌, ◌^◌, Bool, true, false, not, ◌==◌, ◌&&◌, nat_lt, nat_le, if◌then◌else◌, List, [], ◌∷◌, Option, Some, None, refl}
 use Rattle.std.proofs.Common.{sym, ◌∙◌, ap, subst, arith}
 use Rattle.std.proofs.lemmas.Bool.Decides.{nat_tests}
-use Rattle.apsp_model.specs.declared.TheConstants.{MOST_VERTICES, LEAST_WEIGHT, MOST_WEIGHT}
+use Rattle.apsp_model.specs.declared.TheConstants.{MOST_VERTICES, MOST_WEIGHT}
 use Rattle.apsp_model.specs.Graph.{IsEdgeOf}
 use Rattle.apsp_model.specs.Stated.{Entry, IsEntryOf}
 use Rattle.certificate.specs.Cuts.{◌and_then◌, numbers_in}
@@ -13,7 +13,8 @@ use Rattle.certificate.proofs.Cutting.{avoids}
 use Rattle.certificate.proofs.Spellings.{joint, some_same, AreSmall, AreNumbers, numbers_parts, numbers_again, spaced_avoids}
 
 -- an item that was given is one that fits
-pub fits_if : {V : Type 0} (fits : (ℕ × ℕ) × V → Bool) (o : Option ((ℕ × ℕ) × V)) (e : (ℕ × ℕ) × V) → Some e ≡ if_fits fits o → fits e ≡ true
+pub fits_if : {V : Type 0} (fits : (ℕ × ℕ) × V → Bool) (o : Option ((ℕ × ℕ) × V)) (e : (ℕ × ℕ) × V)
+    → Some e ≡ if_fits fits o → fits e ≡ true
 fits_if fits None e h = cc
 fits_if fits (Some p) e h = at (fits p) refl h
   where
@@ -22,7 +23,8 @@ fits_if fits (Some p) e h = at (fits p) refl h
     at false t h = cc
 
 -- the item is the one that the numbers say
-pub item_if : {V : Type 0} (fits : (ℕ × ℕ) × V → Bool) (o : Option ((ℕ × ℕ) × V)) (e : (ℕ × ℕ) × V) → Some e ≡ if_fits fits o → o ≡ Some e
+pub item_if : {V : Type 0} (fits : (ℕ × ℕ) × V → Bool) (o : Option ((ℕ × ℕ) × V)) (e : (ℕ × ℕ) × V)
+    → Some e ≡ if_fits fits o → o ≡ Some e
 item_if fits None e h = cc
 item_if fits (Some p) e h = at (fits p) h
   where
@@ -54,12 +56,14 @@ pair_row (a ∷ b ∷ []) e h = cc
 pair_row (a ∷ b ∷ c ∷ []) e h = cc
 pair_row (a ∷ b ∷ c ∷ d ∷ []) e h = cc
 pair_row (a ∷ b ∷ c ∷ d ∷ f ∷ []) e h =
-    let made : IsPairRow (a ∷ b ∷ c ∷ d ∷ f ∷ []) ((a, b), record { dist = c; hops = d; next = f }) = record { is = refl } in
+    let made : IsPairRow (a ∷ b ∷ c ∷ d ∷ f ∷ []) ((a, b), record { dist = c; hops = d; next = f }) =
+    record { is = refl } in
     subst (IsPairRow (a ∷ b ∷ c ∷ d ∷ f ∷ [])) (some_same ((a, b), record { dist = c; hops = d; next = f }) e h) made
 pair_row (a ∷ b ∷ c ∷ d ∷ f ∷ g ∷ ks) e h = cc
 
 -- the weight of an entry that was read has at most 18 digits
-pub pair_small : (fits : (ℕ × ℕ) × Entry → Bool) (line ks : List ℕ) (e : (ℕ × ℕ) × Entry) → numbers_in 5 line ≡ Some ks → Some e ≡ if_fits fits (pair_of_numbers ks) → e.1.dist < 10 ^ 18
+pub pair_small : (fits : (ℕ × ℕ) × Entry → Bool) (line ks : List ℕ) (e : (ℕ × ℕ) × Entry) → numbers_in 5 line ≡ Some ks
+    → Some e ≡ if_fits fits (pair_of_numbers ks) → e.1.dist < 10 ^ 18
 pair_small fits line ks e read h =
     let row = pair_row ks e (item_if fits (pair_of_numbers ks) e h) in
     let small : AreSmall ks = (numbers_parts 4 line ks read).small in
@@ -81,47 +85,50 @@ ends_test n u v p q r = grind (arith, nat_tests)
 -- an edge that passes the test is an edge of a graph of n vertices
 pub edge_from_test : (n : ℕ) (e : (ℕ × ℕ) × ℕ) → edge_fits n e ≡ true → IsEdgeOf n e.0.0 e.0.1 e.1
 edge_from_test n e h =
-    let s = both (ends_fit n e.0) (nat_le LEAST_WEIGHT e.1 && nat_le e.1 MOST_WEIGHT) h in
+    let s = both (ends_fit n e.0) (nat_le e.1 MOST_WEIGHT) h in
     let ends = ends_facts n e.0.0 e.0.1 s.0 in
-    let w = weight e.1 s.1 in
-    record { from = ends.0; to = ends.1; apart = ends.2; least = w.0; most = w.1 }
+    record { from = ends.0; to = ends.1; apart = ends.2; most = weight e.1 s.1 }
   where
-    weight : (w : ℕ) → (nat_le 1 w && nat_le w 4294967295) ≡ true → (1 ≤ w) × (w ≤ 4294967295)
-    weight w h = (grind (arith, nat_tests), grind (arith, nat_tests))
+    weight : (w : ℕ) → nat_le w MOST_WEIGHT ≡ true → w ≤ MOST_WEIGHT
+    weight w h = grind (arith, nat_tests)
 
 -- .. and such an edge passes it
 pub edge_test : (n : ℕ) (e : (ℕ × ℕ) × ℕ) → IsEdgeOf n e.0.0 e.0.1 e.1 → edge_fits n e ≡ true
 edge_test n e h =
-    ap (λ b. b && (nat_le LEAST_WEIGHT e.1 && nat_le e.1 MOST_WEIGHT)) (ends_test n e.0.0 e.0.1 h.from h.to h.apart)
-    ∙ weight e.1 h.least h.most
+    ap (λ b. b && (nat_le e.1 MOST_WEIGHT)) (ends_test n e.0.0 e.0.1 h.from h.to h.apart)
+    ∙ weight e.1 h.most
   where
-    weight : (w : ℕ) → 1 ≤ w → w ≤ 4294967295 → (nat_le 1 w && nat_le w 4294967295) ≡ true
-    weight w p q = grind (arith, nat_tests)
+    weight : (w : ℕ) → w ≤ MOST_WEIGHT → nat_le w MOST_WEIGHT ≡ true
+    weight w p = grind (arith, nat_tests)
 
 -- an entry that passes the test is within its ranges
 pub entry_from_test : (n : ℕ) (e : (ℕ × ℕ) × Entry) → pair_fits n e ≡ true → IsEntryOf n e.0.0 e.0.1 e.1
 entry_from_test n e h =
-    let s = both (ends_fit n e.0) (entry_fits n e.0.0 e.1) h in
+    let s = both (ends_fit n e.0) (entry_fits n e.0.0 e.1.hops e.1.next) h in
     let ends = ends_facts n e.0.0 e.0.1 s.0 in
-    let r = rest e.1.dist e.1.hops e.1.next e.0.0 s.1 in
-    record { from = ends.0; to = ends.1; apart = ends.2; dist = r.0; some_hops = r.1; most_hops = r.2; next = r.3; moves = r.4 }
+    let r = rest e.1.hops e.1.next e.0.0 s.1 in
+    record { from = ends.0; to = ends.1; apart = ends.2; some_hops = r.0; most_hops = r.1; next = r.2; moves = r.3 }
   where
-    rest : (d h z x : ℕ) → (nat_le 1 d && ((nat_le 1 h && nat_le h (n - 1)) && (nat_lt z n && not (z == x)))) ≡ true → (1 ≤ d) × (1 ≤ h) × (h ≤ n - 1) × (z < n) × (z ≢ x)
-    rest d h z x t = (grind (arith, nat_tests), grind (arith, nat_tests), grind (arith, nat_tests), grind (arith, nat_tests), λ e. grind (arith, nat_tests))
+    rest : (h z x : ℕ) → ((nat_le 1 h && nat_le h (n - 1)) && (nat_lt z n && not (z == x))) ≡ true → (1 ≤ h)
+        × (h ≤ n - 1) × (z < n) × (z ≢ x)
+    rest h z x t =
+        (grind (arith, nat_tests), grind (arith, nat_tests), grind (arith, nat_tests), λ e. grind (arith, nat_tests))
 
 -- .. and such an entry passes it
 pub entry_test : (n : ℕ) (e : (ℕ × ℕ) × Entry) → IsEntryOf n e.0.0 e.0.1 e.1 → pair_fits n e ≡ true
 entry_test n e h =
-    ap (λ b. b && entry_fits n e.0.0 e.1) (ends_test n e.0.0 e.0.1 h.from h.to h.apart)
-    ∙ rest e.1.dist e.1.hops e.1.next e.0.0 h.dist h.some_hops h.most_hops h.next h.moves
+    ap (λ b. b && entry_fits n e.0.0 e.1.hops e.1.next) (ends_test n e.0.0 e.0.1 h.from h.to h.apart)
+    ∙ rest e.1.hops e.1.next e.0.0 h.some_hops h.most_hops h.next h.moves
   where
-    rest : (d h z x : ℕ) → 1 ≤ d → 1 ≤ h → h ≤ n - 1 → z < n → z ≢ x → (nat_le 1 d && ((nat_le 1 h && nat_le h (n - 1)) && (nat_lt z n && not (z == x)))) ≡ true
-    rest d h z x a b c f g = grind (arith, nat_tests)
+    rest : (h z x : ℕ) → 1 ≤ h → h ≤ n - 1 → z < n → z ≢ x
+        → ((nat_le 1 h && nat_le h (n - 1)) && (nat_lt z n && not (z == x))) ≡ true
+    rest h z x b c f g = grind (arith, nat_tests)
 
 -- ---- the form of an item's line, for edges and for pairs
 
 -- what the item of a line looks like, where Few is what its digits say beyond its ranges
-pub record IsForm {V : Type 0} (item_in : List ℕ → Option ((ℕ × ℕ) × V)) (fits : (ℕ × ℕ) × V → Bool) (line : (ℕ × ℕ) × V → List ℕ) (Few : (ℕ × ℕ) × V → Type 0) : Type 0 where
+pub record IsForm {V : Type 0} (item_in : List ℕ → Option ((ℕ × ℕ) × V)) (fits : (ℕ × ℕ) × V → Bool)
+    (line : (ℕ × ℕ) × V → List ℕ) (Few : (ℕ × ℕ) × V → Type 0) : Type 0 where
   pub parts : (l : List ℕ) (e : (ℕ × ℕ) × V) → item_in l ≡ Some e → (l ≡ line e) × Few e
   pub again : (e : (ℕ × ℕ) × V) → fits e ≡ true → Few e → (item_in (line e) ≡ Some e) × (avoids 10 (line e) ≡ true)
 
@@ -138,10 +145,14 @@ edges_form n most = record { parts = parts; again = again }
     small : (e : (ℕ × ℕ) × ℕ) → IsEdgeOf n e.0.0 e.0.1 e.1 → AreSmall (e.0.0 ∷ e.0.1 ∷ e.1 ∷ [])
     small e h = (omega (arith, h.from, most), (omega (arith, h.to, most), (omega (arith, h.most), tt)))
 
-    again : (e : (ℕ × ℕ) × ℕ) → edge_fits n e ≡ true → Unit {0} → (edge_in (edge_line_text e) ≡ Some e) × (avoids 10 (edge_line_text e) ≡ true)
+    again : (e : (ℕ × ℕ) × ℕ) → edge_fits n e ≡ true → Unit {0} → (edge_in (edge_line_text e) ≡ Some e)
+        × (avoids 10 (edge_line_text e) ≡ true)
     again e h few =
-        let s : AreSmall (e.0.0 ∷ e.0.1 ∷ e.1 ∷ []) = small e (edge_from_test n e h) in
-        (ap (λ o. o and_then edge_of_numbers) (numbers_again e.0.0 (e.0.1 ∷ e.1 ∷ []) s), spaced_avoids (e.0.0 ∷ e.0.1 ∷ e.1 ∷ []) s)
+        let s : AreSmall (e.0.0 ∷ e.0.1 ∷ e.1 ∷ []) = small e (edge_from_test n e h) in (
+          ap (λ o. o and_then edge_of_numbers) (numbers_again e.0.0 (e.0.1 ∷ e.1 ∷ []) s),
+          spaced_avoids
+              (e.0.0 ∷ e.0.1 ∷ e.1 ∷ []) s,
+        )
 
 -- the lines of pairs have the form of an item
 pub pairs_form : (n : ℕ) → n ≤ MOST_VERTICES → IsForm pair_in (pair_fits n) pair_line_text (λ e. e.1.dist < 10 ^ 18)
@@ -155,10 +166,21 @@ pairs_form n most = record { parts = parts; again = again }
         let there : AreSmall (e.0.0 ∷ e.0.1 ∷ e.1.dist ∷ e.1.hops ∷ e.1.next ∷ []) = subst AreSmall row.is ks.small in
         (ks.text ∙ ap spaced row.is, there.1.1.0)
 
-    small : (e : (ℕ × ℕ) × Entry) → IsEntryOf n e.0.0 e.0.1 e.1 → e.1.dist < 10 ^ 18 → AreSmall (e.0.0 ∷ e.0.1 ∷ e.1.dist ∷ e.1.hops ∷ e.1.next ∷ [])
-    small e h few = (omega (arith, h.from, most), (omega (arith, h.to, most), (few, (omega (arith, h.most_hops, most), (omega (arith, h.next, most), tt)))))
+    small : (e : (ℕ × ℕ) × Entry) → IsEntryOf n e.0.0 e.0.1 e.1 → e.1.dist < 10 ^ 18
+        → AreSmall (e.0.0 ∷ e.0.1 ∷ e.1.dist ∷ e.1.hops ∷ e.1.next ∷ [])
+    small e h few = (
+      omega (arith, h.from, most),
+      (
+        omega (arith, h.to, most),
+        (few, (omega (arith, h.most_hops, most), (omega (arith, h.next, most), tt))),
+      ),
+    )
 
-    again : (e : (ℕ × ℕ) × Entry) → pair_fits n e ≡ true → e.1.dist < 10 ^ 18 → (pair_in (pair_line_text e) ≡ Some e) × (avoids 10 (pair_line_text e) ≡ true)
+    again : (e : (ℕ × ℕ) × Entry) → pair_fits n e ≡ true → e.1.dist < 10 ^ 18 → (pair_in (pair_line_text e) ≡ Some e)
+        × (avoids 10 (pair_line_text e) ≡ true)
     again e h few =
-        let s : AreSmall (e.0.0 ∷ e.0.1 ∷ e.1.dist ∷ e.1.hops ∷ e.1.next ∷ []) = small e (entry_from_test n e h) few in
-        (ap (λ o. o and_then pair_of_numbers) (numbers_again e.0.0 (e.0.1 ∷ e.1.dist ∷ e.1.hops ∷ e.1.next ∷ []) s), spaced_avoids (e.0.0 ∷ e.0.1 ∷ e.1.dist ∷ e.1.hops ∷ e.1.next ∷ []) s)
+        let s : AreSmall (e.0.0 ∷ e.0.1 ∷ e.1.dist ∷ e.1.hops ∷ e.1.next ∷ []) =
+        small e (entry_from_test n e h) few in (
+          ap (λ o. o and_then pair_of_numbers) (numbers_again e.0.0 (e.0.1 ∷ e.1.dist ∷ e.1.hops ∷ e.1.next ∷ []) s),
+          spaced_avoids (e.0.0 ∷ e.0.1 ∷ e.1.dist ∷ e.1.hops ∷ e.1.next ∷ []) s,
+        )

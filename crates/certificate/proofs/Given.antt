@@ -19,17 +19,24 @@ pub appends_nothing : (old : Option (List ℕ)) → Appends old old []
 appends_nothing None = tt
 appends_nothing (Some xs) = sym (append-nil xs)
 
-appends_both : (old mid new : Option (List ℕ)) (xs ys : List ℕ) → Appends old mid xs → Appends mid new ys → Appends old new (xs ++ ys)
+appends_both : (old mid new : Option (List ℕ)) (xs ys : List ℕ) → Appends old mid xs → Appends mid new ys
+    → Appends old new (xs ++ ys)
 appends_both None mid new xs ys h k = tt
 appends_both (Some os) None new xs ys h k = absurd h
 appends_both (Some os) (Some ms) None xs ys h k = absurd k
 appends_both (Some os) (Some ms) (Some ns) xs ys h k = k ∙ ap (λ zs. zs ++ ys) h ∙ append_assoc os xs ys
 
 -- a front behind what was given is a front of the whole
-front_behind : (old mid new : Option (List ℕ)) (a b t : List ℕ) → Appends old mid a → GrowsByPrefix mid new b → GrowsByPrefix old new (a ++ (b ++ t))
+front_behind : (old mid new : Option (List ℕ)) (a b t : List ℕ) → Appends old mid a → GrowsByPrefix mid new b
+    → GrowsByPrefix old new (a ++ (b ++ t))
 front_behind old mid new a b t h k =
-    let front : a ++ take k.0 b ≡ take (length a + k.0) (a ++ (b ++ t)) = ap (λ xs. a ++ xs) (sym (take-append-le k.0 b t k.1)) ∙ sym (take-append-add a (b ++ t) k.0) in
-    (length a + k.0, omega (arith, k.1, length-append a (b ++ t), length-append b t), subst (Appends old new) front (appends_both old mid new a (take k.0 b) h k.2))
+    let front : a ++ take k.0 b ≡ take (length a + k.0) (a ++ (b ++ t)) =
+    ap (λ xs. a ++ xs) (sym (take-append-le k.0 b t k.1)) ∙ sym (take-append-add a (b ++ t) k.0) in (
+      length a + k.0,
+      omega (arith, k.1, length-append a (b ++ t), length-append b t),
+      subst (Appends old new) front
+          (appends_both old mid new a (take k.0 b) h k.2),
+    )
 
 -- so much was given, and faults did not fall
 pub record Given (old now : Option (List ℕ)) (before after : ℕ) (text : List ℕ) : Type 0 where
@@ -39,27 +46,42 @@ pub record Given (old now : Option (List ℕ)) (before after : ℕ) (text : List
 pub given_none : (old : Option (List ℕ)) (before : ℕ) → Given old old before before []
 given_none old before = record { appends = appends_nothing old; later = omega arith }
 
-pub given_more : (old mid new : Option (List ℕ)) (f g h : ℕ) (a b c : List ℕ) → Given old mid f g a → Appends mid new b → g ≤ h → c ≡ a ++ b → Given old new f h c
-given_more old mid new f g h a b c x y z e = record { appends = subst (Appends old new) (sym e) (appends_both old mid new a b x.appends y); later = omega (arith, x.later, z) }
+pub given_more : (old mid new : Option (List ℕ)) (f g h : ℕ) (a b c : List ℕ) → Given old mid f g a → Appends mid new b
+    → g ≤ h → c ≡ a ++ b → Given old new f h c
+given_more old mid new f g h a b c x y z e =
+    record {
+      appends = subst (Appends old new) (sym e) (appends_both old mid new a b x.appends y);
+      later = omega
+          (arith, x.later, z);
+    }
 
 -- a give that failed behind what was given
-pub given_stops : (e : GiveError) (old mid new : Option (List ℕ)) (f g h : ℕ) (a b c t : List ℕ) → Given old mid f g a → GivesText (Err e) mid new g h b → c ≡ a ++ (b ++ t) → GivesText (Err e) old new f h c
-given_stops give.Failed old mid new f g h a b c t x y e = (subst (GrowsByPrefix old new) (sym e) (front_behind old mid new a b t x.appends y.0), omega (arith, x.later, y.1))
-given_stops give.Memory old mid new f g h a b c t x y e = subst (GrowsByPrefix old new) (sym e) (front_behind old mid new a b t x.appends y)
+pub given_stops : (e : GiveError) (old mid new : Option (List ℕ)) (f g h : ℕ) (a b c t : List ℕ) → Given old mid f g a
+    → GivesText (Err e) mid new g h b → c ≡ a ++ (b ++ t) → GivesText (Err e) old new f h c
+given_stops give.Failed old mid new f g h a b c t x y e =
+    (subst (GrowsByPrefix old new) (sym e) (front_behind old mid new a b t x.appends y.0), omega (arith, x.later, y.1))
+given_stops give.Memory old mid new f g h a b c t x y e =
+    subst (GrowsByPrefix old new) (sym e) (front_behind old mid new a b t x.appends y)
 
 -- the last give
-pub given_last : (r : Result (Unit {0}) GiveError) (old mid new : Option (List ℕ)) (f g h : ℕ) (a b c : List ℕ) → Given old mid f g a → GivesText r mid new g h b → c ≡ a ++ b → GivesText r old new f h c
-given_last (Ok u) old mid new f g h a b c x y e = subst (Appends old new) (sym e) (appends_both old mid new a b x.appends y)
-given_last (Err d) old mid new f g h a b c x y e = given_stops d old mid new f g h a b c [] x y (e ∙ ap (λ xs. a ++ xs) (sym (append-nil b)))
+pub given_last : (r : Result (Unit {0}) GiveError) (old mid new : Option (List ℕ)) (f g h : ℕ) (a b c : List ℕ)
+    → Given old mid f g a → GivesText r mid new g h b → c ≡ a ++ b → GivesText r old new f h c
+given_last (Ok u) old mid new f g h a b c x y e =
+    subst (Appends old new) (sym e) (appends_both old mid new a b x.appends y)
+given_last (Err d) old mid new f g h a b c x y e =
+    given_stops d old mid new f g h a b c [] x y (e ∙ ap (λ xs. a ++ xs) (sym (append-nil b)))
 
 -- ---- the text of items
 
 module _ {V : Type 0} where
-  pub text_append : (line : (ℕ × ℕ) × V → List ℕ) (a b : List ((ℕ × ℕ) × V)) → items_text line (a ++ b) ≡ items_text line a ++ items_text line b
+  pub text_append : (line : (ℕ × ℕ) × V → List ℕ) (a b : List ((ℕ × ℕ) × V))
+      → items_text line (a ++ b) ≡ items_text line a ++ items_text line b
   text_append line a b = ap joined (map-append line a b) ∙ joined_append (each line a) (each line b)
 
-  text_three : (line : (ℕ × ℕ) × V → List ℕ) (a b t c : List ((ℕ × ℕ) × V)) → c ≡ a ++ (b ++ t) → items_text line c ≡ items_text line a ++ (items_text line b ++ items_text line t)
-  text_three line a b t c e = ap (items_text line) e ∙ text_append line a (b ++ t) ∙ ap (λ xs. items_text line a ++ xs) (text_append line b t)
+  text_three : (line : (ℕ × ℕ) × V → List ℕ) (a b t c : List ((ℕ × ℕ) × V)) → c ≡ a ++ (b ++ t)
+      → items_text line c ≡ items_text line a ++ (items_text line b ++ items_text line t)
+  text_three line a b t c e =
+      ap (items_text line) e ∙ text_append line a (b ++ t) ∙ ap (λ xs. items_text line a ++ xs) (text_append line b t)
 
   -- what comes behind a front
   pub record IsFront (a c : List ((ℕ × ℕ) × V)) : Type 0 where
@@ -72,7 +94,8 @@ module _ {V : Type 0} where
   same_front : (a : List ((ℕ × ℕ) × V)) → IsFront a a
   same_front a = record { rest = []; whole = sym (append-nil a) }
 
-  pub row_more : (row : ℕ → Option V) (u v : ℕ) → row_items row u (v + 1) ≡ row_items row u v ++ item_list (u, v) (row v)
+  pub row_more : (row : ℕ → Option V) (u v : ℕ) → row_items row u (v + 1) ≡ row_items row u v
+      ++ item_list (u, v) (row v)
   row_more row u v = ap (row_items row u) (one v)
     where
       one : (v : ℕ) → v + 1 ≡ suc v
@@ -85,39 +108,69 @@ module _ {V : Type 0} where
       one v = omega arith
 
   row_front : (row : ℕ → Option V) (u k m : ℕ) → k ≤ m → IsFront (row_items row u k) (row_items row u m)
-  row_front row u k zero below = let none : k ≡ zero = omega arith in subst (λ j. IsFront (row_items row u j) (row_items row u zero)) (sym none) (same_front (row_items row u zero))
+  row_front row u k zero below =
+      let none : k ≡ zero = omega arith in
+      subst (λ j. IsFront (row_items row u j) (row_items row u zero)) (sym none) (same_front (row_items row u zero))
   row_front row u k (suc m) below = elim (cases_eq k (suc m)) [
-    | inl same ↦ subst (λ j. IsFront (row_items row u j) (row_items row u (suc m))) (sym same) (same_front (row_items row u (suc m)))
-    | inr other ↦ front_more (row_items row u k) (row_items row u m) (item_list (u, m) (row m)) (row_front row u k m (omega (arith, below, other)))
+    | inl same ↦ subst (λ j. IsFront (row_items row u j) (row_items row u (suc m))) (sym same)
+        (same_front (row_items row u (suc m)))
+    | inr other ↦ front_more (row_items row u k) (row_items row u m) (item_list (u, m) (row m))
+        (row_front row u k m (omega (arith, below, other)))
   ]
 
   table_front : (f : ℕ → ℕ → Option V) (n k m : ℕ) → k ≤ m → IsFront (table_items f n k) (table_items f n m)
-  table_front f n k zero below = let none : k ≡ zero = omega arith in subst (λ j. IsFront (table_items f n j) (table_items f n zero)) (sym none) (same_front (table_items f n zero))
+  table_front f n k zero below =
+      let none : k ≡ zero = omega arith in
+      subst (λ j. IsFront (table_items f n j) (table_items f n zero)) (sym none) (same_front (table_items f n zero))
   table_front f n k (suc m) below = elim (cases_eq k (suc m)) [
-    | inl same ↦ subst (λ j. IsFront (table_items f n j) (table_items f n (suc m))) (sym same) (same_front (table_items f n (suc m)))
-    | inr other ↦ front_more (table_items f n k) (table_items f n m) (row_items (f m) m n) (table_front f n k m (omega (arith, below, other)))
+    | inl same ↦ subst (λ j. IsFront (table_items f n j) (table_items f n (suc m))) (sym same)
+        (same_front (table_items f n (suc m)))
+    | inr other ↦ front_more (table_items f n k) (table_items f n m) (row_items (f m) m n)
+        (table_front f n k m (omega (arith, below, other)))
   ]
 
   module _ (line : (ℕ × ℕ) × V → List ℕ) (old mid new : Option (List ℕ)) (f g h : ℕ) where
-    pub row_goes_on : (row : ℕ → Option V) (u v : ℕ) → Given old mid f g (items_text line (row_items row u v)) → Appends mid new (items_text line (item_list (u, v) (row v))) → g ≤ h → Given old new f h (items_text line (row_items row u (v + 1)))
-    row_goes_on row u v x y z = given_more old mid new f g h _ _ _ x y z (ap (items_text line) (row_more row u v) ∙ text_append line (row_items row u v) (item_list (u, v) (row v)))
+    pub row_goes_on : (row : ℕ → Option V) (u v : ℕ) → Given old mid f g (items_text line (row_items row u v))
+        → Appends mid new (items_text line (item_list (u, v) (row v))) → g ≤ h
+        → Given old new f h (items_text line (row_items row u (v + 1)))
+    row_goes_on row u v x y z =
+        given_more old mid new f g h _ _ _ x y z
+        (ap (items_text line) (row_more row u v) ∙ text_append line (row_items row u v) (item_list (u, v) (row v)))
 
     -- a give that fails in a row leaves a front of the row
-    pub row_stops : (e : GiveError) (row : ℕ → Option V) (u v n : ℕ) → v < n → Given old mid f g (items_text line (row_items row u v)) → GivesText (Err e) mid new g h (items_text line (item_list (u, v) (row v))) → GivesText (Err e) old new f h (items_text line (row_items row u n))
+    pub row_stops : (e : GiveError) (row : ℕ → Option V) (u v n : ℕ) → v < n
+        → Given old mid f g (items_text line (row_items row u v))
+        → GivesText (Err e) mid new g h (items_text line (item_list (u, v) (row v)))
+        → GivesText (Err e) old new f h (items_text line (row_items row u n))
     row_stops e row u v n below x y =
-        let front : IsFront (row_items row u (v + 1)) (row_items row u n) = row_front row u (v + 1) n (omega (arith, below)) in
-        let whole : row_items row u n ≡ row_items row u v ++ (item_list (u, v) (row v) ++ front.rest) = front.whole ∙ ap (λ xs. xs ++ front.rest) (row_more row u v) ∙ append_assoc (row_items row u v) (item_list (u, v) (row v)) front.rest in
-        given_stops e old mid new f g h _ _ _ (items_text line front.rest) x y (text_three line (row_items row u v) (item_list (u, v) (row v)) front.rest (row_items row u n) whole)
+        let front : IsFront (row_items row u (v + 1)) (row_items row u n) =
+        row_front row u (v + 1) n (omega (arith, below)) in
+        let whole : row_items row u n ≡ row_items row u v ++ (item_list (u, v) (row v) ++ front.rest) =
+        front.whole ∙ ap (λ xs. xs ++ front.rest) (row_more row u v)
+        ∙ append_assoc (row_items row u v) (item_list (u, v) (row v)) front.rest in
+        given_stops e old mid new f g h _ _ _ (items_text line front.rest) x y
+        (text_three line (row_items row u v) (item_list (u, v) (row v)) front.rest (row_items row u n) whole)
 
-    pub table_goes_on : (t : ℕ → ℕ → Option V) (n u : ℕ) → Given old mid f g (items_text line (table_items t n u)) → Appends mid new (items_text line (row_items (t u) u n)) → g ≤ h → Given old new f h (items_text line (table_items t n (u + 1)))
-    table_goes_on t n u x y z = given_more old mid new f g h _ _ _ x y z (ap (items_text line) (table_more t n u) ∙ text_append line (table_items t n u) (row_items (t u) u n))
+    pub table_goes_on : (t : ℕ → ℕ → Option V) (n u : ℕ) → Given old mid f g (items_text line (table_items t n u))
+        → Appends mid new (items_text line (row_items (t u) u n)) → g ≤ h
+        → Given old new f h (items_text line (table_items t n (u + 1)))
+    table_goes_on t n u x y z =
+        given_more old mid new f g h _ _ _ x y z
+        (ap (items_text line) (table_more t n u) ∙ text_append line (table_items t n u) (row_items (t u) u n))
 
     -- a row that fails leaves a front of the table
-    pub table_stops : (e : GiveError) (t : ℕ → ℕ → Option V) (n u m : ℕ) → u < m → Given old mid f g (items_text line (table_items t n u)) → GivesText (Err e) mid new g h (items_text line (row_items (t u) u n)) → GivesText (Err e) old new f h (items_text line (table_items t n m))
+    pub table_stops : (e : GiveError) (t : ℕ → ℕ → Option V) (n u m : ℕ) → u < m
+        → Given old mid f g (items_text line (table_items t n u))
+        → GivesText (Err e) mid new g h (items_text line (row_items (t u) u n))
+        → GivesText (Err e) old new f h (items_text line (table_items t n m))
     table_stops e t n u m below x y =
-        let front : IsFront (table_items t n (u + 1)) (table_items t n m) = table_front t n (u + 1) m (omega (arith, below)) in
-        let whole : table_items t n m ≡ table_items t n u ++ (row_items (t u) u n ++ front.rest) = front.whole ∙ ap (λ xs. xs ++ front.rest) (table_more t n u) ∙ append_assoc (table_items t n u) (row_items (t u) u n) front.rest in
-        given_stops e old mid new f g h _ _ _ (items_text line front.rest) x y (text_three line (table_items t n u) (row_items (t u) u n) front.rest (table_items t n m) whole)
+        let front : IsFront (table_items t n (u + 1)) (table_items t n m) =
+        table_front t n (u + 1) m (omega (arith, below)) in
+        let whole : table_items t n m ≡ table_items t n u ++ (row_items (t u) u n ++ front.rest) =
+        front.whole ∙ ap (λ xs. xs ++ front.rest) (table_more t n u)
+        ∙ append_assoc (table_items t n u) (row_items (t u) u n) front.rest in
+        given_stops e old mid new f g h _ _ _ (items_text line front.rest) x y
+        (text_three line (table_items t n u) (row_items (t u) u n) front.rest (table_items t n m) whole)
 
   -- ---- how many items there are
 
@@ -125,76 +178,120 @@ module _ {V : Type 0} where
   item_count q None = refl
   item_count q (Some w) = refl
 
-  pub row_count : (row : ℕ → Option V) (u v : ℕ) (b : Bool) → is_some (row v) ≡ b → length (row_items row u (v + 1)) ≡ length (row_items row u v) + (if b then 1 else 0)
-  row_count row u v b e = ap length (row_more row u v) ∙ length-append (row_items row u v) (item_list (u, v) (row v)) ∙ ap (λ k. length (row_items row u v) + k) (item_count (u, v) (row v) ∙ ap (λ c. if c then 1 else 0) e)
+  pub row_count : (row : ℕ → Option V) (u v : ℕ) (b : Bool) → is_some (row v) ≡ b
+      → length (row_items row u (v + 1)) ≡ length (row_items row u v) + (if b then 1 else 0)
+  row_count row u v b e =
+      ap length (row_more row u v) ∙ length-append (row_items row u v) (item_list (u, v) (row v))
+      ∙ ap (λ k. length (row_items row u v) + k) (item_count (u, v) (row v) ∙ ap (λ c. if c then 1 else 0) e)
 
   pub row_short : (row : ℕ → Option V) (u v : ℕ) → length (row_items row u v) ≤ v
   row_short row u zero = omega arith
-  row_short row u (suc v) = let one = at_most (row v) in omega (arith, length-append (row_items row u v) (item_list (u, v) (row v)), row_short row u v, one)
+  row_short row u (suc v) =
+      let one = at_most (row v) in omega (
+        arith,
+        length-append (row_items row u v) (item_list (u, v) (row v)),
+        row_short
+            row u v,
+        one,
+      )
     where
       at_most : (o : Option V) → length (item_list (u, v) o) ≤ 1
       at_most None = omega arith
       at_most (Some w) = omega arith
 
-  pub table_count : (f : ℕ → ℕ → Option V) (n u : ℕ) → length (table_items f n (u + 1)) ≡ length (table_items f n u) + length (row_items (f u) u n)
+  pub table_count : (f : ℕ → ℕ → Option V) (n u : ℕ)
+      → length (table_items f n (u + 1)) ≡ length (table_items f n u) + length (row_items (f u) u n)
   table_count f n u = ap length (table_more f n u) ∙ length-append (table_items f n u) (row_items (f u) u n)
 
   pub table_short : (f : ℕ → ℕ → Option V) (n u : ℕ) → length (table_items f n u) ≤ u * n
   table_short f n zero = omega arith
-  table_short f n (suc u) = omega (arith, length-append (table_items f n u) (row_items (f u) u n), table_short f n u, row_short (f u) u n)
+  table_short f n (suc u) =
+      omega (arith, length-append (table_items f n u) (row_items (f u) u n), table_short f n u, row_short (f u) u n)
 
 -- ---- whole parts of a text
 
 -- a line with a number, where the number is another name of it
-pub numbered : (r : Result (Unit {0}) GiveError) (old new : Option (List ℕ)) (f h : ℕ) (word : List ℕ) (k n : ℕ) → k ≡ n → GivesText r old new f h (named word k ++ 10 ∷ []) → GivesText r old new f h (named word n ++ 10 ∷ [])
+pub numbered : (r : Result (Unit {0}) GiveError) (old new : Option (List ℕ)) (f h : ℕ) (word : List ℕ) (k n : ℕ) → k ≡ n
+    → GivesText r old new f h (named word k ++ 10 ∷ []) → GivesText r old new f h (named word n ++ 10 ∷ [])
 numbered r old new f h word k n e x = subst (λ j. GivesText r old new f h (named word j ++ 10 ∷ [])) e x
 
 module _ (a b c : List ℕ) where
   -- the head fails in its first line
-  pub head_stops_first : (e : GiveError) (old new : Option (List ℕ)) (f h : ℕ) → GivesText (Err e) old new f h (a ++ 10 ∷ []) → GivesText (Err e) old new f h (joined (a ∷ b ∷ c ∷ []))
-  head_stops_first e old new f h x = given_stops e old old new f f h [] (a ++ 10 ∷ []) (joined (a ∷ b ∷ c ∷ [])) (joined (b ∷ c ∷ [])) (given_none old f) x refl
+  pub head_stops_first : (e : GiveError) (old new : Option (List ℕ)) (f h : ℕ)
+      → GivesText (Err e) old new f h (a ++ 10 ∷ []) → GivesText (Err e) old new f h (joined (a ∷ b ∷ c ∷ []))
+  head_stops_first e old new f h x =
+      given_stops e old old new f f h [] (a ++ 10 ∷ []) (joined (a ∷ b ∷ c ∷ [])) (joined (b ∷ c ∷ []))
+      (given_none old f) x refl
 
   -- .. or in its second
-  pub head_stops_second : (e : GiveError) (old mid new : Option (List ℕ)) (f g h : ℕ) → Appends old mid (a ++ 10 ∷ []) → f ≤ g → GivesText (Err e) mid new g h (b ++ 10 ∷ []) → GivesText (Err e) old new f h (joined (a ∷ b ∷ c ∷ []))
-  head_stops_second e old mid new f g h x l y = given_stops e old mid new f g h (a ++ 10 ∷ []) (b ++ 10 ∷ []) (joined (a ∷ b ∷ c ∷ [])) (joined (c ∷ [])) (record { appends = x; later = l }) y refl
+  pub head_stops_second : (e : GiveError) (old mid new : Option (List ℕ)) (f g h : ℕ) → Appends old mid (a ++ 10 ∷ [])
+      → f ≤ g → GivesText (Err e) mid new g h (b ++ 10 ∷ []) → GivesText (Err e) old new f h (joined (a ∷ b ∷ c ∷ []))
+  head_stops_second e old mid new f g h x l y =
+      given_stops e old mid new f g h (a ++ 10 ∷ []) (b ++ 10 ∷ []) (joined (a ∷ b ∷ c ∷ [])) (joined (c ∷ []))
+      (record { appends = x; later = l }) y refl
 
   -- .. or is given up to what its third line gives
-  pub head_last : (r : Result (Unit {0}) GiveError) (old first second new : Option (List ℕ)) (f g i h : ℕ) → Appends old first (a ++ 10 ∷ []) → f ≤ g → Appends first second (b ++ 10 ∷ []) → g ≤ i → GivesText r second new i h (c ++ 10 ∷ []) → GivesText r old new f h (joined (a ∷ b ∷ c ∷ []))
+  pub head_last : (r : Result (Unit {0}) GiveError) (old first second new : Option (List ℕ)) (f g i h : ℕ)
+      → Appends old first (a ++ 10 ∷ []) → f ≤ g → Appends first second (b ++ 10 ∷ []) → g ≤ i
+      → GivesText r second new i h (c ++ 10 ∷ []) → GivesText r old new f h (joined (a ∷ b ∷ c ∷ []))
   head_last r old first second new f g i h x l y m z =
       given_last r old second new f i h ((a ++ 10 ∷ []) ++ (b ++ 10 ∷ [])) (c ++ 10 ∷ []) (joined (a ∷ b ∷ c ∷ []))
-      (given_more old first second f g i (a ++ 10 ∷ []) (b ++ 10 ∷ []) ((a ++ 10 ∷ []) ++ (b ++ 10 ∷ [])) (record { appends = x; later = l }) y m refl)
+      (given_more old first second f g i (a ++ 10 ∷ []) (b ++ 10 ∷ []) ((a ++ 10 ∷ []) ++ (b ++ 10 ∷ []))
+      (record { appends = x; later = l }) y m refl)
       z
-      (ap (λ r. (a ++ 10 ∷ []) ++ ((b ++ 10 ∷ []) ++ r)) (append-nil (c ++ 10 ∷ [])) ∙ sym (append_assoc (a ++ 10 ∷ []) (b ++ 10 ∷ []) (c ++ 10 ∷ [])))
+      (ap (λ r. (a ++ 10 ∷ []) ++ ((b ++ 10 ∷ []) ++ r)) (append-nil (c ++ 10 ∷ []))
+      ∙ sym (append_assoc (a ++ 10 ∷ []) (b ++ 10 ∷ []) (c ++ 10 ∷ [])))
 
-module _ {V : Type 0} (word : List ℕ) (line : (ℕ × ℕ) × V → List ℕ) (items : List ((ℕ × ℕ) × V)) (k : ℕ) (count : k ≡ length items) where
+module _ {V : Type 0} (word : List ℕ) (line : (ℕ × ℕ) × V → List ℕ) (items : List ((ℕ × ℕ) × V)) (k : ℕ)
+    (count : k ≡ length items) where
   -- a table fails in the line of its count
-  pub count_stops : (e : GiveError) (old new : Option (List ℕ)) (f h : ℕ) → GivesText (Err e) old new f h (named word k ++ 10 ∷ []) → GivesText (Err e) old new f h (table_text word line items)
-  count_stops e old new f h x = given_stops e old old new f f h [] (named word (length items) ++ 10 ∷ []) (table_text word line items) (items_text line items) (given_none old f) (numbered (Err e) old new f h word k (length items) count x) refl
+  pub count_stops : (e : GiveError) (old new : Option (List ℕ)) (f h : ℕ)
+      → GivesText (Err e) old new f h (named word k ++ 10 ∷ [])
+      → GivesText (Err e) old new f h (table_text word line items)
+  count_stops e old new f h x =
+      given_stops e old old new f f h [] (named word (length items) ++ 10 ∷ []) (table_text word line items)
+      (items_text line items) (given_none old f) (numbered (Err e) old new f h word k (length items) count x) refl
 
   -- .. or is given up to what its items give
-  pub items_last : (r : Result (Unit {0}) GiveError) (old mid new : Option (List ℕ)) (f g h : ℕ) → Appends old mid (named word k ++ 10 ∷ []) → f ≤ g → GivesText r mid new g h (items_text line items) → GivesText r old new f h (table_text word line items)
+  pub items_last : (r : Result (Unit {0}) GiveError) (old mid new : Option (List ℕ)) (f g h : ℕ)
+      → Appends old mid (named word k ++ 10 ∷ []) → f ≤ g → GivesText r mid new g h (items_text line items)
+      → GivesText r old new f h (table_text word line items)
   items_last r old mid new f g h x l y =
-      given_last r old mid new f g h (named word (length items) ++ 10 ∷ []) (items_text line items) (table_text word line items) (record { appends = subst (λ j. Appends old mid (named word j ++ 10 ∷ [])) count x; later = l }) y refl
+      given_last r old mid new f g h (named word (length items) ++ 10 ∷ []) (items_text line items)
+      (table_text word line items) (record
+      { appends = subst (λ j. Appends old mid (named word j ++ 10 ∷ [])) count x; later = l }) y refl
 
 -- four parts, one behind the other
 module _ (a b c d whole : List ℕ) (is : whole ≡ a ++ (b ++ (c ++ d))) where
   -- the whole fails in its first part
-  pub stops_in_first : (e : GiveError) (old new : Option (List ℕ)) (f h : ℕ) → GivesText (Err e) old new f h a → GivesText (Err e) old new f h whole
+  pub stops_in_first : (e : GiveError) (old new : Option (List ℕ)) (f h : ℕ) → GivesText (Err e) old new f h a
+      → GivesText (Err e) old new f h whole
   stops_in_first e old new f h x = given_stops e old old new f f h [] a whole (b ++ (c ++ d)) (given_none old f) x is
 
   -- .. or in its second
-  pub stops_in_second : (e : GiveError) (old mid new : Option (List ℕ)) (f g h : ℕ) → Appends old mid a → f ≤ g → GivesText (Err e) mid new g h b → GivesText (Err e) old new f h whole
-  stops_in_second e old mid new f g h x l y = given_stops e old mid new f g h a b whole (c ++ d) (record { appends = x; later = l }) y is
+  pub stops_in_second : (e : GiveError) (old mid new : Option (List ℕ)) (f g h : ℕ) → Appends old mid a → f ≤ g
+      → GivesText (Err e) mid new g h b → GivesText (Err e) old new f h whole
+  stops_in_second e old mid new f g h x l y =
+      given_stops e old mid new f g h a b whole (c ++ d) (record { appends = x; later = l }) y is
 
-  two : (old first second : Option (List ℕ)) (f g i : ℕ) → Appends old first a → f ≤ g → Appends first second b → g ≤ i → Given old second f i (a ++ b)
-  two old first second f g i x l y m = given_more old first second f g i a b (a ++ b) (record { appends = x; later = l }) y m refl
+  two : (old first second : Option (List ℕ)) (f g i : ℕ) → Appends old first a → f ≤ g → Appends first second b → g ≤ i
+      → Given old second f i (a ++ b)
+  two old first second f g i x l y m =
+      given_more old first second f g i a b (a ++ b) (record { appends = x; later = l }) y m refl
 
   -- .. or in its third
-  pub stops_in_third : (e : GiveError) (old first second new : Option (List ℕ)) (f g i h : ℕ) → Appends old first a → f ≤ g → Appends first second b → g ≤ i → GivesText (Err e) second new i h c → GivesText (Err e) old new f h whole
-  stops_in_third e old first second new f g i h x l y m z = given_stops e old second new f i h (a ++ b) c whole d (two old first second f g i x l y m) z (is ∙ sym (append_assoc a b (c ++ d)))
+  pub stops_in_third : (e : GiveError) (old first second new : Option (List ℕ)) (f g i h : ℕ) → Appends old first a
+      → f ≤ g → Appends first second b → g ≤ i → GivesText (Err e) second new i h c
+      → GivesText (Err e) old new f h whole
+  stops_in_third e old first second new f g i h x l y m z =
+      given_stops e old second new f i h (a ++ b) c whole d (two old first second f g i x l y m) z
+      (is ∙ sym (append_assoc a b (c ++ d)))
 
   -- .. or is given up to what its last part gives
-  pub last_part : (r : Result (Unit {0}) GiveError) (old first second third new : Option (List ℕ)) (f g i j h : ℕ) → Appends old first a → f ≤ g → Appends first second b → g ≤ i → Appends second third c → i ≤ j → GivesText r third new j h d → GivesText r old new f h whole
+  pub last_part : (r : Result (Unit {0}) GiveError) (old first second third new : Option (List ℕ)) (f g i j h : ℕ)
+      → Appends old first a → f ≤ g → Appends first second b → g ≤ i → Appends second third c → i ≤ j
+      → GivesText r third new j h d → GivesText r old new f h whole
   last_part r old first second third new f g i j h x l y m z n w =
-      given_last r old third new f j h ((a ++ b) ++ c) d whole (given_more old second third f i j (a ++ b) c ((a ++ b) ++ c) (two old first second f g i x l y m) z n refl) w
+      given_last r old third new f j h ((a ++ b) ++ c) d whole
+      (given_more old second third f i j (a ++ b) c ((a ++ b) ++ c) (two old first second f g i x l y m) z n refl) w
       (is ∙ sym (append_assoc a b (c ++ d)) ∙ sym (append_assoc (a ++ b) c d))

@@ -29,71 +29,102 @@ abbrev Late : {X : Type 0} → ℕ → Result X CertError → Type 0
 Late k (Ok x) = ⊤
 Late k (Err e) = AtLeast k e
 
-goes_on : {X Y : Type 0} (next : X → Rest) (after : Y → Rest) (k : ℕ) (m : Result X CertError) (f : X → Result Y CertError) → Goes next k m → ((x : X) → k ≤ (next x).number → Goes after k (f x)) → Goes after k (m >>= f)
+goes_on : {X Y : Type 0} (next : X → Rest) (after : Y → Rest) (k : ℕ) (m : Result X CertError)
+    (f : X → Result Y CertError) → Goes next k m → ((x : X) → k ≤ (next x).number → Goes after k (f x))
+    → Goes after k (m >>= f)
 goes_on next after k (Ok x) f h g = g x h
 goes_on next after k (Err e) f h g = h
 
-late_on : {X Y : Type 0} (next : X → Rest) (k : ℕ) (m : Result X CertError) (f : X → Result Y CertError) → Goes next k m → ((x : X) → k ≤ (next x).number → Late k (f x)) → Late k (m >>= f)
+late_on : {X Y : Type 0} (next : X → Rest) (k : ℕ) (m : Result X CertError) (f : X → Result Y CertError) → Goes next k m
+    → ((x : X) → k ≤ (next x).number → Late k (f x)) → Late k (m >>= f)
 late_on next k (Ok x) f h g = g x h
 late_on next k (Err e) f h g = h
 
-late_end : {X Y : Type 0} (k : ℕ) (m : Result X CertError) (f : X → Y) → Late k m → Late {X = Y} k (m >>= (λ x. Ok (f x)))
+late_end : {X Y : Type 0} (k : ℕ) (m : Result X CertError) (f : X → Y) → Late k m
+    → Late {X = Y} k (m >>= (λ x. Ok (f x)))
 late_end k (Ok x) f h = tt
 late_end k (Err e) f h = h
 
-shape_goes : {X Y : Type 0} (after : Y → Rest) (k line : ℕ) (o : Option X) (f : X → Result Y CertError) → k ≤ line → ((x : X) → Goes after k (f x)) → Goes after k (or_shape o line >>= f)
+shape_goes : {X Y : Type 0} (after : Y → Rest) (k line : ℕ) (o : Option X) (f : X → Result Y CertError) → k ≤ line
+    → ((x : X) → Goes after k (f x)) → Goes after k (or_shape o line >>= f)
 shape_goes after k line (Some x) f h g = g x
 shape_goes after k line None f h g = h
 
 line_goes : (k : ℕ) (r : Rest) → k ≤ r.number → Goes (λ (l : List ℕ × Rest). l.1) k (line_at r)
-line_goes k r h = shape_goes (λ (l : List ℕ × Rest). l.1) k r.number (cut 10 r.bytes) (λ l. Ok (l.0, record { number = r.number + 1; bytes = l.1 })) h (λ x. omega (arith, h))
+line_goes k r h =
+    shape_goes (λ (l : List ℕ × Rest). l.1) k r.number (cut 10 r.bytes)
+    (λ l. Ok (l.0, record { number = r.number + 1; bytes = l.1 })) h (λ x. omega (arith, h))
 
 named_goes : (k : ℕ) (word : List ℕ) (r : Rest) → k ≤ r.number → Goes (λ (x : ℕ × Rest). x.1) k (named_line word r)
 named_goes k word r h =
-    goes_on (λ (l : List ℕ × Rest). l.1) (λ (x : ℕ × Rest). x.1) k (line_at r) (λ l. or_shape (number_behind word l.0) r.number >>= (λ j. Ok (j, l.1))) (line_goes k r h)
+    goes_on (λ (l : List ℕ × Rest). l.1) (λ (x : ℕ × Rest). x.1) k (line_at r)
+    (λ l. or_shape (number_behind word l.0) r.number >>= (λ j. Ok (j, l.1))) (line_goes k r h)
     (λ l p. shape_goes (λ (x : ℕ × Rest). x.1) k r.number (number_behind word l.0) (λ j. Ok (j, l.1)) h (λ j. p))
 
-count_goes : (k : ℕ) (word : List ℕ) (most : ℕ) (r : Rest) → k ≤ r.number → Goes (λ (x : ℕ × Rest). x.1) k (count_line word most r)
+count_goes : (k : ℕ) (word : List ℕ) (most : ℕ) (r : Rest) → k ≤ r.number
+    → Goes (λ (x : ℕ × Rest). x.1) k (count_line word most r)
 count_goes k word most r h =
-    goes_on (λ (x : ℕ × Rest). x.1) (λ (x : ℕ × Rest). x.1) k (named_line word r) (λ j. if nat_le j.0 most then Ok j else Err (Range r.number)) (named_goes k word r h)
+    goes_on (λ (x : ℕ × Rest). x.1) (λ (x : ℕ × Rest). x.1) k (named_line word r)
+    (λ j. if nat_le j.0 most then Ok j else Err (Range r.number)) (named_goes k word r h)
     (λ j p. at (nat_le j.0 most) j p)
   where
-    at : (b : Bool) (j : ℕ × Rest) → k ≤ j.1.number → Goes (λ (x : ℕ × Rest). x.1) k (if b then Ok j else Err (Range r.number))
+    at : (b : Bool) (j : ℕ × Rest) → k ≤ j.1.number
+        → Goes (λ (x : ℕ × Rest). x.1) k (if b then Ok j else Err (Range r.number))
     at true j p = p
     at false j p = h
 
 module _ {V : Type 0} (item_in : List ℕ → Option ((ℕ × ℕ) × V)) (fits : (ℕ × ℕ) × V → Bool) where
-  item_goes : (k : ℕ) (before : Option (ℕ × ℕ)) (r : Rest) → k ≤ r.number → Goes (λ (x : ((ℕ × ℕ) × V) × Rest). x.1) k (item_line item_in fits before r)
+  item_goes : (k : ℕ) (before : Option (ℕ × ℕ)) (r : Rest) → k ≤ r.number
+      → Goes (λ (x : ((ℕ × ℕ) × V) × Rest). x.1) k (item_line item_in fits before r)
   item_goes k before r h =
-      goes_on (λ (l : List ℕ × Rest). l.1) (λ (x : ((ℕ × ℕ) × V) × Rest). x.1) k (line_at r) (λ l. or_shape (item_in l.0) r.number >>= (λ e. if not (fits e) then Err (Range r.number) else (if rises before e.0 then Ok (e, l.1) else Err (Order r.number)))) (line_goes k r h)
-      (λ l p. shape_goes (λ (x : ((ℕ × ℕ) × V) × Rest). x.1) k r.number (item_in l.0) (λ e. if not (fits e) then Err (Range r.number) else (if rises before e.0 then Ok (e, l.1) else Err (Order r.number))) h (λ e. at (fits e) (rises before e.0) e l.1 p))
+      goes_on (λ (l : List ℕ × Rest). l.1) (λ (x : ((ℕ × ℕ) × V) × Rest). x.1) k (line_at r)
+      (λ l. or_shape (item_in l.0) r.number >>=
+      (λ e. if not (fits e) then Err (Range r.number) else
+      (if rises before e.0 then Ok (e, l.1) else Err (Order r.number)))) (line_goes k r h)
+      (λ l p. shape_goes (λ (x : ((ℕ × ℕ) × V) × Rest). x.1) k r.number (item_in l.0)
+      (λ e. if not (fits e) then Err (Range r.number) else
+      (if rises before e.0 then Ok (e, l.1) else Err (Order r.number))) h
+      (λ e. at (fits e) (rises before e.0) e l.1 p))
     where
-      at : (b c : Bool) (e : (ℕ × ℕ) × V) (next : Rest) → k ≤ next.number → Goes (λ (x : ((ℕ × ℕ) × V) × Rest). x.1) k (if not b then Err (Range r.number) else (if c then Ok (e, next) else Err (Order r.number)))
+      at : (b c : Bool) (e : (ℕ × ℕ) × V) (next : Rest) → k ≤ next.number
+          → Goes (λ (x : ((ℕ × ℕ) × V) × Rest). x.1) k
+          (if not b then Err (Range r.number) else (if c then Ok (e, next) else Err (Order r.number)))
       at true true e next p = p
       at true false e next p = h
       at false c e next p = h
 
-  items_go : (k : ℕ) (m : map.FinMap pair_cmp V) (count : ℕ) (before : Option (ℕ × ℕ)) (r : Rest) → k ≤ r.number → Goes (λ (x : map.FinMap pair_cmp V × Rest). x.1) k (items_onto item_in fits m count before r)
+  items_go : (k : ℕ) (m : map.FinMap pair_cmp V) (count : ℕ) (before : Option (ℕ × ℕ)) (r : Rest) → k ≤ r.number
+      → Goes (λ (x : map.FinMap pair_cmp V × Rest). x.1) k (items_onto item_in fits m count before r)
   items_go k m zero before r h = h
   items_go k m (suc count) before r h =
-      goes_on (λ (x : ((ℕ × ℕ) × V) × Rest). x.1) (λ (x : map.FinMap pair_cmp V × Rest). x.1) k (item_line item_in fits before r) (λ e. items_onto item_in fits (map.insert m e.0.0 e.0.1) count (Some e.0.0) e.1) (item_goes k before r h)
+      goes_on (λ (x : ((ℕ × ℕ) × V) × Rest). x.1) (λ (x : map.FinMap pair_cmp V × Rest). x.1) k
+      (item_line item_in fits before r)
+      (λ e. items_onto item_in fits (map.insert m e.0.0 e.0.1) count (Some e.0.0) e.1) (item_goes k before r h)
       (λ e p. items_go k (map.insert m e.0.0 e.0.1) count (Some e.0.0) e.1 p)
 
-  table_goes : (k : ℕ) (word : List ℕ) (n : ℕ) (r : Rest) → k ≤ r.number → Goes (λ (x : map.FinMap pair_cmp V × Rest). x.1) k (table_of word item_in fits n r)
+  table_goes : (k : ℕ) (word : List ℕ) (n : ℕ) (r : Rest) → k ≤ r.number
+      → Goes (λ (x : map.FinMap pair_cmp V × Rest). x.1) k (table_of word item_in fits n r)
   table_goes k word n r h =
-      goes_on (λ (x : ℕ × Rest). x.1) (λ (x : map.FinMap pair_cmp V × Rest). x.1) k (count_line word (n * (n - 1)) r) (λ c. items_onto item_in fits map.empty c.0 None c.1) (count_goes k word (n * (n - 1)) r h)
+      goes_on (λ (x : ℕ × Rest). x.1) (λ (x : map.FinMap pair_cmp V × Rest). x.1) k (count_line word (n * (n - 1)) r)
+      (λ c. items_onto item_in fits map.empty c.0 None c.1) (count_goes k word (n * (n - 1)) r h)
       (λ c p. items_go k map.empty c.0 None c.1 p)
 
 fixed_goes : (k : ℕ) (text : List ℕ) (r : Rest) → k ≤ r.number → Goes (λ (x : Rest). x) k (fixed_line text r)
 fixed_goes k text r h =
-    goes_on (λ (l : List ℕ × Rest). l.1) (λ (x : Rest). x) k (line_at r) (λ l. if bytes_eq l.0 text then Ok l.1 else Err (Shape r.number)) (line_goes k r h) (λ l p. at (bytes_eq l.0 text) l.1 p)
+    goes_on (λ (l : List ℕ × Rest). l.1) (λ (x : Rest). x) k (line_at r)
+    (λ l. if bytes_eq l.0 text then Ok l.1 else Err (Shape r.number)) (line_goes k r h)
+    (λ l p. at (bytes_eq l.0 text) l.1 p)
   where
-    at : (b : Bool) (next : Rest) → k ≤ next.number → Goes (λ (x : Rest). x) k (if b then Ok next else Err (Shape r.number))
+    at : (b : Bool) (next : Rest) → k ≤ next.number
+        → Goes (λ (x : Rest). x) k (if b then Ok next else Err (Shape r.number))
     at true next p = p
     at false next p = h
 
 end_late : (k : ℕ) (r : Rest) → k ≤ r.number → Late k (closing_line r)
-end_late k r h = late_on (λ (x : Rest). x) k (fixed_line (codes "end") r) (λ e. if length e.bytes == 0 then Ok tt else Err (Shape e.number)) (fixed_goes k (codes "end") r h) (λ e p. at (length e.bytes == 0) e p)
+end_late k r h =
+    late_on (λ (x : Rest). x) k (fixed_line (codes "end") r)
+    (λ e. if length e.bytes == 0 then Ok tt else Err (Shape e.number)) (fixed_goes k (codes "end") r h)
+    (λ e p. at (length e.bytes == 0) e p)
   where
     at : (b : Bool) (e : Rest) → k ≤ e.number → Late {X = Unit {0}} k (if b then Ok tt else Err (Shape e.number))
     at true e p = tt
@@ -101,9 +132,15 @@ end_late k r h = late_on (λ (x : Rest). x) k (fixed_line (codes "end") r) (λ e
 
 body_late : (k : ℕ) (h : Head) → k ≤ h.rest.number → Late k (body_of h)
 body_late k h l =
-    late_on (λ (x : map.FinMap pair_cmp ℕ × Rest). x.1) k (table_of (codes "edges") edge_in (edge_fits h.vertices) h.vertices h.rest) _ (table_goes edge_in (edge_fits h.vertices) k (codes "edges") h.vertices h.rest l)
-    (λ es p. late_on (λ (x : map.FinMap pair_cmp _ × Rest). x.1) k (table_of (codes "pairs") pair_in (pair_fits h.vertices) h.vertices es.1) _ (table_goes pair_in (pair_fits h.vertices) k (codes "pairs") h.vertices es.1 p)
-    (λ ps q. late_end k (closing_line ps.1) (λ _. record { number = h.number; graph = record { vertices = h.vertices; edges = es.0 }; entries = ps.0 }) (end_late k ps.1 q)))
+    late_on (λ (x : map.FinMap pair_cmp ℕ × Rest). x.1) k
+    (table_of (codes "edges") edge_in (edge_fits h.vertices) h.vertices h.rest) _
+    (table_goes edge_in (edge_fits h.vertices) k (codes "edges") h.vertices h.rest l)
+    (λ es p. late_on (λ (x : map.FinMap pair_cmp _ × Rest). x.1) k
+    (table_of (codes "pairs") pair_in (pair_fits h.vertices) h.vertices es.1) _
+    (table_goes pair_in (pair_fits h.vertices) k (codes "pairs") h.vertices es.1 p)
+    (λ ps q. late_end k (closing_line ps.1)
+    (λ _. record { number = h.number; graph = record { vertices = h.vertices; edges = es.0 }; entries = ps.0 })
+    (end_late k ps.1 q)))
 
 -- a body that starts in the fourth line has no fault before it
 pub not_early : (h : Head) (r : Result Stated CertError) → r ≡ body_of h → 4 ≤ h.rest.number → IsEarly r → ⊥
@@ -120,22 +157,29 @@ not_early h r e l early = at (body_of h) (body_late 4 h l) (subst IsEarly e earl
 
 vertices_goes : (k : ℕ) (r : Rest) → k ≤ r.number → Goes (λ (x : ℕ × Rest). x.1) k (vertices_head_line r)
 vertices_goes k r h =
-    goes_on (λ (x : ℕ × Rest). x.1) (λ (x : ℕ × Rest). x.1) k (named_line (codes "vertices") r) (λ n. if nat_le 1 n.0 && nat_le n.0 MOST_VERTICES then Ok n else Err (Range r.number)) (named_goes k (codes "vertices") r h)
+    goes_on (λ (x : ℕ × Rest). x.1) (λ (x : ℕ × Rest). x.1) k (named_line (codes "vertices") r)
+    (λ n. if nat_le 1 n.0 && nat_le n.0 MOST_VERTICES then Ok n else Err (Range r.number))
+    (named_goes k (codes "vertices") r h)
     (λ n p. at (nat_le 1 n.0 && nat_le n.0 MOST_VERTICES) n p)
   where
-    at : (b : Bool) (n : ℕ × Rest) → k ≤ n.1.number → Goes (λ (x : ℕ × Rest). x.1) k (if b then Ok n else Err (Range r.number))
+    at : (b : Bool) (n : ℕ × Rest) → k ≤ n.1.number
+        → Goes (λ (x : ℕ × Rest). x.1) k (if b then Ok n else Err (Range r.number))
     at true n p = p
     at false n p = h
 
 head_goes : (k : ℕ) (r : Rest) → k ≤ r.number → Goes (λ (h : Head). h.rest) k (head_of r)
 head_goes k r h =
-    goes_on (λ (x : Rest). x) (λ (d : Head). d.rest) k (fixed_line (codes "apsp certificate 1") r) _ (fixed_goes k (codes "apsp certificate 1") r h)
-    (λ a p. goes_on (λ (x : ℕ × Rest). x.1) (λ (d : Head). d.rest) k (named_line (codes "number") a) _ (named_goes k (codes "number") a p)
-    (λ c q. goes_on (λ (x : ℕ × Rest). x.1) (λ (d : Head). d.rest) k (vertices_head_line c.1) (λ n. Ok (record { number = c.0; vertices = n.0; rest = n.1 })) (vertices_goes k c.1 q) (λ n u. u)))
+    goes_on (λ (x : Rest). x) (λ (d : Head). d.rest) k (fixed_line (codes "apsp certificate 1") r) _
+    (fixed_goes k (codes "apsp certificate 1") r h)
+    (λ a p. goes_on (λ (x : ℕ × Rest). x.1) (λ (d : Head). d.rest) k (named_line (codes "number") a) _
+    (named_goes k (codes "number") a p)
+    (λ c q. goes_on (λ (x : ℕ × Rest). x.1) (λ (d : Head). d.rest) k (vertices_head_line c.1)
+    (λ n. Ok (record { number = c.0; vertices = n.0; rest = n.1 })) (vertices_goes k c.1 q) (λ n u. u)))
 
 -- want of memory is no fault of a text
 pub never_memory : (bytes : List ℕ) → stated_by bytes ≡ Err Memory → ⊥
 never_memory bytes e =
     let r : Rest = record { number = 1; bytes = bytes } in
-    let all : Late 1 (stated_by bytes) = late_on (λ (d : Head). d.rest) 1 (head_of r) body_of (head_goes 1 r (omega arith)) (λ d p. body_late 1 d p) in
+    let all : Late 1 (stated_by bytes) =
+    late_on (λ (d : Head). d.rest) 1 (head_of r) body_of (head_goes 1 r (omega arith)) (λ d p. body_late 1 d p) in
     subst (Late 1) e all

@@ -34,7 +34,8 @@ pub record IsBound {A B : Type 0} (m : Result A CertError) (f : A → Result B C
   pub second : f value ≡ Ok y
 
 -- where both give something
-pub bound : {A B : Type 0} (m : Result A CertError) (f : A → Result B CertError) (y : B) → (m >>= f) ≡ Ok y → IsBound m f y
+pub bound : {A B : Type 0} (m : Result A CertError) (f : A → Result B CertError) (y : B) → (m >>= f) ≡ Ok y
+    → IsBound m f y
 bound (Ok x) f y e = record { value = x; first = refl; second = e }
 bound (Err r) f y e = cc
 
@@ -44,7 +45,8 @@ shaped (Some y) line x e = cc
 shaped None line x e = cc
 
 -- a test that was passed, whose failure is a refusal
-pub passed : {A : Type 0} (b : Bool) (x y : A) (e : CertError) → ◌≡◌ {A = Result A CertError} (if b then Ok x else Err e) (Ok y) → (b ≡ true) × (x ≡ y)
+pub passed : {A : Type 0} (b : Bool) (x y : A) (e : CertError)
+    → ◌≡◌ {A = Result A CertError} (if b then Ok x else Err e) (Ok y) → (b ≡ true) × (x ≡ y)
 passed true x y e h = (refl, cc)
 passed false x y e h = cc
 
@@ -76,7 +78,8 @@ word_avoids c k low small = digits_avoid c (decimal k) low (word_of k small).dig
 
 number_before_again : (k : ℕ) (rest : List ℕ) → k < 10 ^ 18 → number_before 32 (decimal k ++ 32 ∷ rest) ≡ Some (k, rest)
 number_before_again k rest small =
-    ap (λ o. o and_then (λ p. number_of MOST_DIGITS p.0 and_then (λ j. Some (j, p.1)))) (cut_again 32 (decimal k) rest (word_avoids 32 k (omega arith) small))
+    ap (λ o. o and_then (λ p. number_of MOST_DIGITS p.0 and_then (λ j. Some (j, p.1))))
+    (cut_again 32 (decimal k) rest (word_avoids 32 k (omega arith) small))
     ∙ ap (λ o. o and_then (λ j. Some (j, rest))) (read_again k small)
 
 pub record IsSpelledBefore (s rest : List ℕ) (k : ℕ) : Type 0 where
@@ -89,8 +92,10 @@ number_before_parts s a e =
     let inner = joint (number_of MOST_DIGITS outer.value.0) (λ k. Some (k, outer.value.1)) a outer.second in
     let place : IsCutAt 32 s outer.value.0 outer.value.1 = cut_parts 32 s outer.value.0 outer.value.1 outer.first in
     let word : IsSpelled outer.value.0 inner.value = spelled outer.value.0 inner.value inner.first in
-    let same : ◌≡◌ {A = ℕ × List ℕ} (inner.value, outer.value.1) a = some_same (inner.value, outer.value.1) a inner.second in
-    let made : IsSpelledBefore s outer.value.1 inner.value = record { whole = place.whole ∙ ap (λ w. w ++ 32 ∷ outer.value.1) word.word; small = word.small } in
+    let same : ◌≡◌ {A = ℕ × List ℕ} (inner.value, outer.value.1) a =
+    some_same (inner.value, outer.value.1) a inner.second in
+    let made : IsSpelledBefore s outer.value.1 inner.value =
+    record { whole = place.whole ∙ ap (λ w. w ++ 32 ∷ outer.value.1) word.word; small = word.small } in
     let P : ℕ × List ℕ → Type 0 = λ b. IsSpelledBefore s b.1 b.0 in
     subst P same made
 
@@ -112,9 +117,11 @@ numbers_parts (suc n) s ks e =
     let b = joint (numbers_in (suc n) a.value.1) (λ ls. Some (a.value.0 ∷ ls)) ks a.second in
     let here : IsSpelledBefore s a.value.1 a.value.0 = number_before_parts s a.value a.first in
     let later : AreNumbers (suc n) a.value.1 b.value = numbers_parts n a.value.1 b.value b.first in
-    subst (AreNumbers (suc (suc n)) s) (some_same (a.value.0 ∷ b.value) ks b.second) (made s a.value.1 a.value.0 b.value n here later)
+    subst (AreNumbers (suc (suc n)) s) (some_same (a.value.0 ∷ b.value) ks b.second)
+    (made s a.value.1 a.value.0 b.value n here later)
   where
-    made : (s rest : List ℕ) (k : ℕ) (ls : List ℕ) (n : ℕ) → IsSpelledBefore s rest k → AreNumbers (suc n) rest ls → AreNumbers (suc (suc n)) s (k ∷ ls)
+    made : (s rest : List ℕ) (k : ℕ) (ls : List ℕ) (n : ℕ) → IsSpelledBefore s rest k → AreNumbers (suc n) rest ls
+        → AreNumbers (suc (suc n)) s (k ∷ ls)
     made s rest k [] n here later = absurd (omega (arith, later.count))
     made s rest k (l ∷ ls) n here later = record {
       text = here.whole ∙ ap (λ r. decimal k ++ 32 ∷ r) later.text;
@@ -123,17 +130,21 @@ numbers_parts (suc n) s ks e =
     }
 
 -- .. and from their spelling they are read
-pub numbers_again : (k : ℕ) (ks : List ℕ) → AreSmall (k ∷ ks) → numbers_in (suc (length ks)) (spaced (k ∷ ks)) ≡ Some (k ∷ ks)
+pub numbers_again : (k : ℕ) (ks : List ℕ) → AreSmall (k ∷ ks)
+    → numbers_in (suc (length ks)) (spaced (k ∷ ks)) ≡ Some (k ∷ ks)
 numbers_again k [] small = ap (λ o. o and_then (λ j. Some (j ∷ []))) (read_again k small.0)
 numbers_again k (l ∷ ks) small =
-    ap (λ o. o and_then (λ a. numbers_in (suc (length ks)) a.1 and_then (λ ls. Some (a.0 ∷ ls)))) (number_before_again k (spaced (l ∷ ks)) small.0)
+    ap (λ o. o and_then (λ a. numbers_in (suc (length ks)) a.1 and_then (λ ls. Some (a.0 ∷ ls))))
+    (number_before_again k (spaced (l ∷ ks)) small.0)
     ∙ ap (λ o. o and_then (λ ls. Some (k ∷ ls))) (numbers_again l ks small.1)
 
 -- the spelling of numbers has no newline
 pub spaced_avoids : (ks : List ℕ) → AreSmall ks → avoids 10 (spaced ks) ≡ true
 spaced_avoids [] small = refl
 spaced_avoids (k ∷ []) small = word_avoids 10 k (omega arith) small.0
-spaced_avoids (k ∷ l ∷ ks) small = avoids-append 10 (decimal k) (32 ∷ spaced (l ∷ ks)) (word_avoids 10 k (omega arith) small.0) (spaced_avoids (l ∷ ks) small.1)
+spaced_avoids (k ∷ l ∷ ks) small =
+    avoids-append 10 (decimal k) (32 ∷ spaced (l ∷ ks)) (word_avoids 10 k (omega arith) small.0)
+    (spaced_avoids (l ∷ ks) small.1)
 
 -- ---- a word and a number
 
@@ -149,15 +160,22 @@ named_parts word s k e =
     let place : IsCutAt 32 s a.value.0 a.value.1 = cut_parts 32 s a.value.0 a.value.1 a.first in
     at (bytes_eq a.value.0 word) a.value refl place a.second
   where
-    at : (b : Bool) (v : List ℕ × List ℕ) → bytes_eq v.0 word ≡ b → IsCutAt 32 s v.0 v.1 → (if b then number_of MOST_DIGITS v.1 else None) ≡ Some k → IsNamed word s k
+    at : (b : Bool) (v : List ℕ × List ℕ) → bytes_eq v.0 word ≡ b → IsCutAt 32 s v.0 v.1
+        → (if b then number_of MOST_DIGITS v.1 else None) ≡ Some k → IsNamed word s k
     at true v t place e =
         let w : IsSpelled v.1 k = spelled v.1 k e in
-        record { text = place.whole ∙ ap (λ f. f ++ 32 ∷ v.1) (same_bytes v.0 word t) ∙ ap (λ r. word ++ 32 ∷ r) w.word; small = w.small }
+        record {
+          text = place.whole ∙ ap (λ f. f ++ 32 ∷ v.1) (same_bytes v.0 word t)
+              ∙ ap (λ r. word ++ 32 ∷ r) w.word;
+          small = w.small;
+        }
     at false v t place e = cc
 
-pub named_again : (word : List ℕ) (k : ℕ) → avoids 32 word ≡ true → k < 10 ^ 18 → number_behind word (named word k) ≡ Some k
+pub named_again : (word : List ℕ) (k : ℕ) → avoids 32 word ≡ true → k < 10 ^ 18
+    → number_behind word (named word k) ≡ Some k
 named_again word k clean small =
-    ap (λ o. o and_then (λ p. if bytes_eq p.0 word then number_of MOST_DIGITS p.1 else None)) (cut_again 32 word (decimal k) clean)
+    ap (λ o. o and_then (λ p. if bytes_eq p.0 word then number_of MOST_DIGITS p.1 else None))
+    (cut_again 32 word (decimal k) clean)
     ∙ ap (λ b. if b then number_of MOST_DIGITS (decimal k) else None) (bytes_same word)
     ∙ read_again k small
 
@@ -167,8 +185,12 @@ named_avoids word k clean small = avoids-append 10 word (32 ∷ decimal k) clean
 -- ---- lines
 
 -- a line with its newline is read as that line
-pub line_again : (number : ℕ) (line rest : List ℕ) → avoids 10 line ≡ true → line_at (record { number = number; bytes = line ++ 10 ∷ rest }) ≡ Ok (line, record { number = number + 1; bytes = rest })
-line_again number line rest clean = ap (λ o. or_shape o number >>= (λ l. Ok (l.0, record { number = number + 1; bytes = l.1 }))) (cut_again 10 line rest clean)
+pub line_again : (number : ℕ) (line rest : List ℕ) → avoids 10 line ≡ true
+    → line_at (record { number = number; bytes = line ++ 10 ∷ rest }) ≡ Ok
+    (line, record { number = number + 1; bytes = rest })
+line_again number line rest clean =
+    ap (λ o. or_shape o number >>= (λ l. Ok (l.0, record { number = number + 1; bytes = l.1 })))
+    (cut_again 10 line rest clean)
 
 -- what is left begins with the line, and goes on behind it
 pub record IsLine (r : Rest) (line : List ℕ) (next : Rest) : Type 0 where
@@ -178,15 +200,21 @@ pub record IsLine (r : Rest) (line : List ℕ) (next : Rest) : Type 0 where
 -- what a line was read from
 pub line_parts : (r : Rest) (l : List ℕ × Rest) → line_at r ≡ Ok l → IsLine r l.0 l.1
 line_parts r l e =
-    let a = bound (or_shape (cut 10 r.bytes) r.number) (λ c. Ok (c.0, record { number = r.number + 1; bytes = c.1 })) l e in
-    let place : IsCutAt 10 r.bytes a.value.0 a.value.1 = cut_parts 10 r.bytes a.value.0 a.value.1 (shaped (cut 10 r.bytes) r.number a.value a.first) in
-    let made : IsLine r a.value.0 (record { number = r.number + 1; bytes = a.value.1 }) = record { bytes = place.whole; number = refl } in
+    let a = bound (or_shape (cut 10 r.bytes) r.number) (λ c. Ok (c.0, record { number = r.number + 1; bytes = c.1 })) l
+    e in
+    let place : IsCutAt 10 r.bytes a.value.0 a.value.1 =
+    cut_parts 10 r.bytes a.value.0 a.value.1 (shaped (cut 10 r.bytes) r.number a.value a.first) in
+    let made : IsLine r a.value.0 (record { number = r.number + 1; bytes = a.value.1 }) =
+    record { bytes = place.whole; number = refl } in
     let P : List ℕ × Rest → Type 0 = λ m. IsLine r m.0 m.1 in
-    let same : ◌≡◌ {A = List ℕ × Rest} (a.value.0, record { number = r.number + 1; bytes = a.value.1 }) l = ok_same _ l a.second in
+    let same : ◌≡◌ {A = List ℕ × Rest} (a.value.0, record { number = r.number + 1; bytes = a.value.1 }) l =
+    ok_same _ l a.second in
     subst P same made
 
 -- a fixed line is read where it stands
-pub fixed_again : (number : ℕ) (line rest : List ℕ) → avoids 10 line ≡ true → fixed_line line (record { number = number; bytes = line ++ 10 ∷ rest }) ≡ Ok (record { number = number + 1; bytes = rest })
+pub fixed_again : (number : ℕ) (line rest : List ℕ) → avoids 10 line ≡ true
+    → fixed_line line (record { number = number; bytes = line ++ 10 ∷ rest }) ≡ Ok
+    (record { number = number + 1; bytes = rest })
 fixed_again number line rest clean =
     ap (λ m. m >>= (λ l. if bytes_eq l.0 line then Ok l.1 else Err (Shape number))) (line_again number line rest clean)
     ∙ ap (λ b. if b then Ok (record { number = number + 1; bytes = rest }) else Err (Shape number)) (bytes_same line)
@@ -202,10 +230,15 @@ fixed_parts text r next e =
     subst Q t.1 (subst P (same_bytes a.value.0 text t.0) line)
 
 -- a line of a word and a number is read where it stands
-pub named_line_again : (number : ℕ) (word : List ℕ) (k : ℕ) (rest : List ℕ) → avoids 10 word ≡ true → avoids 32 word ≡ true → k < 10 ^ 18 → named_line word (record { number = number; bytes = named word k ++ 10 ∷ rest }) ≡ Ok (k, record { number = number + 1; bytes = rest })
+pub named_line_again : (number : ℕ) (word : List ℕ) (k : ℕ) (rest : List ℕ) → avoids 10 word ≡ true
+    → avoids 32 word ≡ true → k < 10 ^ 18
+    → named_line word (record { number = number; bytes = named word k ++ 10 ∷ rest }) ≡ Ok
+    (k, record { number = number + 1; bytes = rest })
 named_line_again number word k rest clean one small =
-    ap (λ m. m >>= (λ l. or_shape (number_behind word l.0) number >>= (λ j. Ok (j, l.1)))) (line_again number (named word k) rest (named_avoids word k clean small))
-    ∙ ap (λ o. or_shape o number >>= (λ j. Ok (j, record { number = number + 1; bytes = rest }))) (named_again word k one small)
+    ap (λ m. m >>= (λ l. or_shape (number_behind word l.0) number >>= (λ j. Ok (j, l.1))))
+    (line_again number (named word k) rest (named_avoids word k clean small))
+    ∙ ap (λ o. or_shape o number >>= (λ j. Ok (j, record { number = number + 1; bytes = rest })))
+    (named_again word k one small)
 
 -- what is left begins with a line of the word and the number k
 pub record IsNamedLine (word : List ℕ) (r : Rest) (k : ℕ) (next : Rest) : Type 0 where
@@ -218,9 +251,11 @@ named_line_parts word r x e =
     let a = bound (line_at r) (λ l. or_shape (number_behind word l.0) r.number >>= (λ k. Ok (k, l.1))) x e in
     let b = bound (or_shape (number_behind word a.value.0) r.number) (λ k. Ok (k, a.value.1)) x a.second in
     let line : IsLine r a.value.0 a.value.1 = line_parts r a.value a.first in
-    let word_is : IsNamed word a.value.0 b.value = named_parts word a.value.0 b.value (shaped (number_behind word a.value.0) r.number b.value b.first) in
+    let word_is : IsNamed word a.value.0 b.value =
+    named_parts word a.value.0 b.value (shaped (number_behind word a.value.0) r.number b.value b.first) in
     let P : List ℕ → Type 0 = λ w. IsLine r w a.value.1 in
-    let made : IsNamedLine word r b.value a.value.1 = record { line = subst P word_is.text line; small = word_is.small } in
+    let made : IsNamedLine word r b.value a.value.1 =
+    record { line = subst P word_is.text line; small = word_is.small } in
     let Q : ℕ × Rest → Type 0 = λ y. IsNamedLine word r y.0 y.1 in
     let same : ◌≡◌ {A = ℕ × Rest} (b.value, a.value.1) x = ok_same (b.value, a.value.1) x b.second in
     subst Q same made

@@ -4,7 +4,7 @@ use Rattle.std.specs.FinMap as map
 use Rattle.std.proofs.Common.{sym, ◌∙◌, ap, subst, inl, inr, arith}
 use Rattle.std.proofs.lemmas.Bool.{ne_eqb, cases_eq}
 use Rattle.std.proofs.lemmas.Nat.{mul-le}
-use Rattle.apsp_model.specs.declared.TheConstants.{LEAST_WEIGHT, MOST_WEIGHT}
+use Rattle.apsp_model.specs.declared.TheConstants.{MOST_VERTICES, MOST_WEIGHT}
 use Rattle.apsp_model.specs.Graph.{Graph, IsGraph, HasEdge, edge_weight, weight_at}
 use Rattle.apsp_model.specs.Walk.{weight_of, hops_of}
 use Rattle.apsp_model.specs.Least.{IsLeast, HasNoWalk}
@@ -31,11 +31,17 @@ some_same x y e = cc
 -- ---- one value
 
 module _ (v : VersionSeen) (s : Stated) (is : IsStatedOf v s) where
-  entry_there : (x y : ℕ) → x < v.graph.vertices → y < v.graph.vertices → x ≢ y → map.get s.entries (x, y) ≡ entry_of v.graph (least_is_some_option v.graph x y).0
-  entry_there x y p q apart = entry_is v.graph x y (map.get s.entries (x, y)) (least_is_some_option v.graph x y).0 (is.entries x y p q apart) (least_is_some_option v.graph x y).1
+  entry_there : (x y : ℕ) → x < v.graph.vertices → y < v.graph.vertices → x ≢ y
+      → map.get s.entries (x, y) ≡ entry_of v.graph (least_is_some_option v.graph x y).0
+  entry_there x y p q apart =
+      entry_is v.graph x y (map.get s.entries (x, y)) (least_is_some_option v.graph x y).0 (is.entries x y p q apart)
+      (least_is_some_option v.graph x y).1
 
-  entry_outside : (x y : ℕ) → ((x < v.graph.vertices) → (y < v.graph.vertices) → x ≢ y → ⊥) → map.get s.entries (x, y) ≡ None
-  entry_outside x y out = none_or_some (map.get s.entries (x, y)) (map.get s.entries (x, y) ≡ None) (λ e. e) (λ w e. absurd (let i = is.inside x y w e in out i.0 i.1 i.2))
+  entry_outside : (x y : ℕ) → ((x < v.graph.vertices) → (y < v.graph.vertices) → x ≢ y → ⊥)
+      → map.get s.entries (x, y) ≡ None
+  entry_outside x y out =
+      none_or_some (map.get s.entries (x, y)) (map.get s.entries (x, y) ≡ None) (λ e. e)
+      (λ w e. absurd (let i = is.inside x y w e in out i.0 i.1 i.2))
 
 -- a version states one value
 pub one_stated_of : (v : VersionSeen) (s t : Stated) → IsStatedOf v s → IsStatedOf v t → s ≡ t
@@ -45,7 +51,8 @@ one_stated_of v s t h k =
     let entries : s.entries ≡ t.entries = map.same_map pairs_total exact_pair s.entries t.entries (λ q. at q.0 q.1) in
     λ i. record { number = number i; graph = graph i; entries = entries i }
   where
-    out_of : (x y : ℕ) → ((x < v.graph.vertices) → (y < v.graph.vertices) → x ≢ y → ⊥) → map.get s.entries (x, y) ≡ map.get t.entries (x, y)
+    out_of : (x y : ℕ) → ((x < v.graph.vertices) → (y < v.graph.vertices) → x ≢ y → ⊥)
+        → map.get s.entries (x, y) ≡ map.get t.entries (x, y)
     out_of x y out = entry_outside v s h x y out ∙ sym (entry_outside v t k x y out)
 
     at : (x y : ℕ) → map.get s.entries (x, y) ≡ map.get t.entries (x, y)
@@ -71,12 +78,17 @@ ends_differ : (g : Graph) (x y a z : ℕ) (q : List ℕ) → IsLeast g x y (a �
 ends_differ g x y a z q h same =
     let here : a ≡ x = some_same a x h.walk.from in
     let inside : x < g.vertices = subst (λ i. i < g.vertices) here h.walk.walk.0 in
-    let alone : a ∷ z ∷ q ≡ x ∷ [] = least_unique g x x (a ∷ z ∷ q) (x ∷ []) (subst (λ j. IsLeast g x j (a ∷ z ∷ q)) (sym same) h) (least_of_vertex g x inside) in
+    let alone : a ∷ z ∷ q ≡ x ∷ [] =
+    least_unique g x x (a ∷ z ∷ q) (x ∷ []) (subst (λ j. IsLeast g x j (a ∷ z ∷ q)) (sym same) h)
+    (least_of_vertex g x inside) in
     cc
 
 module _ (v : VersionSeen) (s : Stated) (is : IsStatedOf v s) where
-  entry_of_walk : (x y : ℕ) (p : List ℕ) → x < v.graph.vertices → y < v.graph.vertices → x ≢ y → IsLeast v.graph x y p → entry_at s x y ≡ entry_of v.graph (Some p)
-  entry_of_walk x y p a b apart least = ap (λ c. if c then Some (record { dist = 0; hops = 0; next = x }) else map.get s.entries (x, y)) (ne_eqb x y apart) ∙ entry_is v.graph x y (map.get s.entries (x, y)) (Some p) (is.entries x y a b apart) least
+  entry_of_walk : (x y : ℕ) (p : List ℕ) → x < v.graph.vertices → y < v.graph.vertices → x ≢ y → IsLeast v.graph x y p
+      → entry_at s x y ≡ entry_of v.graph (Some p)
+  entry_of_walk x y p a b apart least =
+      ap (λ c. if c then Some (record { dist = 0; hops = 0; next = x }) else map.get s.entries (x, y))
+      (ne_eqb x y apart) ∙ entry_is v.graph x y (map.get s.entries (x, y)) (Some p) (is.entries x y a b apart) least
 
   follows_next : (x y : ℕ) (p : List ℕ) → y < v.graph.vertices → IsLeast v.graph x y p → FollowsNext s y p
   follows_next x y [] b least = least.walk.walk
@@ -85,7 +97,8 @@ module _ (v : VersionSeen) (s : Stated) (is : IsStatedOf v s) where
       let here : a ≡ x = some_same a x least.walk.from in
       let from_a : IsLeast v.graph a y (a ∷ z ∷ q) = subst (λ i. IsLeast v.graph i y (a ∷ z ∷ q)) (sym here) least in
       let apart : a ≢ y = ends_differ v.graph a y a z q from_a in
-      let entry : entry_at s a y ≡ entry_of v.graph (Some (a ∷ z ∷ q)) = entry_of_walk a y (a ∷ z ∷ q) least.walk.walk.0 b apart from_a in
+      let entry : entry_at s a y ≡ entry_of v.graph (Some (a ∷ z ∷ q)) =
+      entry_of_walk a y (a ∷ z ∷ q) least.walk.walk.0 b apart from_a in
       let F : Option Entry → Type 0 = λ o. IsSomeAnd o (λ e. e.next ≡ z) in
       (apart, subst F (sym entry) refl, follows_next z y (z ∷ q) b (rest_is_least v.graph x y a z q least))
 
@@ -94,9 +107,13 @@ module _ (v : VersionSeen) (s : Stated) (is : IsStatedOf v s) where
   lawful_of x y p q apart =
       let a : x < v.graph.vertices = subst (λ (g : Graph). x < g.vertices) is.graph p in
       let b : y < v.graph.vertices = subst (λ (g : Graph). y < g.vertices) is.graph q in
-      at x y a b apart (map.get s.entries (x, y)) (is.entries x y a b apart) (ap (λ c. if c then Some (record { dist = 0; hops = 0; next = x }) else map.get s.entries (x, y)) (ne_eqb x y apart))
+      at x y a b apart (map.get s.entries (x, y)) (is.entries x y a b apart)
+      (ap (λ c. if c then Some (record { dist = 0; hops = 0; next = x }) else map.get s.entries (x, y))
+      (ne_eqb x y apart))
     where
-      at : (x y : ℕ) → x < v.graph.vertices → y < v.graph.vertices → x ≢ y → (o : Option Entry) → StatedEntryIs v.graph x y o → entry_at s x y ≡ o → MatchOption (entry_at s x y) (HasNoWalk s.graph x y) (IsLawfulEntry s x y)
+      at : (x y : ℕ) → x < v.graph.vertices → y < v.graph.vertices → x ≢ y → (o : Option Entry)
+          → StatedEntryIs v.graph x y o → entry_at s x y ≡ o
+          → MatchOption (entry_at s x y) (HasNoWalk s.graph x y) (IsLawfulEntry s x y)
       at x y a b apart None h e =
           let F : Option Entry → Type 0 = λ o. MatchOption o (HasNoWalk s.graph x y) (IsLawfulEntry s x y) in
           subst F (sym e) (subst (λ g. HasNoWalk g x y) (sym is.graph) h)
@@ -113,33 +130,32 @@ module _ (v : VersionSeen) (s : Stated) (is : IsStatedOf v s) where
 
 -- ---- within the ranges
 
-edge_at_least : (g : Graph) (a z : ℕ) → IsGraph g → HasEdge g a z → LEAST_WEIGHT ≤ edge_weight g a z
-edge_at_least g a z graph edge = at (weight_at g a z) refl edge
-  where
-    at : (o : Option ℕ) → weight_at g a z ≡ o → IsSome o → LEAST_WEIGHT ≤ unwrap_or (weight_at g a z) 0
-    at None e h = cc
-    at (Some w) e h = subst (λ o. LEAST_WEIGHT ≤ unwrap_or o 0) (sym e) (graph.edges a z w e).least
-
-walk_entry : (g : Graph) (x y : ℕ) (p : List ℕ) → IsGraph g → x < g.vertices → y < g.vertices → x ≢ y → IsLeast g x y p → IsEntryOf g.vertices x y (record { dist = weight_of g p; hops = hops_of p; next = second_of p }) × (weight_of g p < 10 ^ 18)
+walk_entry : (g : Graph) (x y : ℕ) (p : List ℕ) → IsGraph g → x < g.vertices → y < g.vertices → x ≢ y → IsLeast g x y p
+    → IsEntryOf g.vertices x y (record { dist = weight_of g p; hops = hops_of p; next = second_of p })
+    × (weight_of g p < 10 ^ 18)
 walk_entry g x y [] graph a b apart least = absurd least.walk.walk
 walk_entry g x y (c ∷ []) graph a b apart least = absurd (apart (some_same x y (sym least.walk.from ∙ least.walk.to)))
 walk_entry g x y (c ∷ z ∷ q) graph a b apart least =
-    let short : length (c ∷ z ∷ q) ≤ g.vertices = simple_walk_is_short g (c ∷ z ∷ q) least.walk.walk (least_is_simple g (c ∷ z ∷ q) (x, y, least)) in
+    let short : length (c ∷ z ∷ q) ≤ g.vertices =
+    simple_walk_is_short g (c ∷ z ∷ q) least.walk.walk (least_is_simple g (c ∷ z ∷ q) (x, y, least)) in
     let here : c ≡ x = some_same c x least.walk.from in
-    let low : LEAST_WEIGHT ≤ edge_weight g c z = edge_at_least g c z graph least.walk.walk.1 in
     let head : z < g.vertices = walk_head g z q least.walk.walk.2 in
     let moves : z ≢ x = λ e. no_loop (weight_at g c z) refl least.walk.walk.1 (here ∙ sym e) in (
       record {
         from = a;
         to = b;
         apart = apart;
-        dist = omega (arith, low);
         some_hops = omega arith;
         most_hops = omega (arith, short);
         next = head;
         moves = moves;
       },
-      omega (arith, weight_most g graph (c ∷ z ∷ q), mul-le (hops_of (c ∷ z ∷ q)) MOST_WEIGHT 128 4294967295 (omega (arith, short, graph.most)) (omega arith)),
+      omega (
+        arith,
+        weight_most g graph (c ∷ z ∷ q),
+        mul-le (hops_of (c ∷ z ∷ q)) MOST_WEIGHT MOST_VERTICES MOST_WEIGHT
+            (omega (arith, short, graph.most)) (omega arith),
+      ),
     )
   where
     no_loop : (o : Option ℕ) → weight_at g c z ≡ o → IsSome o → c ≡ z → ⊥
@@ -157,7 +173,8 @@ writable_of v s graph small is = record {
   dists = λ x y e h. (entry x y e h).1;
 }
   where
-    entry : (x y : ℕ) (e : Entry) → map.get s.entries (x, y) ≡ Some e → IsEntryOf v.graph.vertices x y e × (e.dist < 10 ^ 18)
+    entry : (x y : ℕ) (e : Entry) → map.get s.entries (x, y) ≡ Some e → IsEntryOf v.graph.vertices x y e
+        × (e.dist < 10 ^ 18)
     entry x y e h =
         let i = is.inside x y e h in
         let d : StatedEntryIs v.graph x y (Some e) = subst (StatedEntryIs v.graph x y) h (is.entries x y i.0 i.1 i.2) in

@@ -37,21 +37,28 @@ same_option g x y (Some p) None h k = absurd (k p h.walk)
 same_option g x y (Some p) (Some q) h k = ap Some (least_unique g x y p q h k)
 
 -- the entry of a table is that of the least walk
-pub entry_is : (g : Graph) (x y : ℕ) (e : Option Entry) (o : Option (List ℕ)) → StatedEntryIs g x y e → LeastIs g x y o → e ≡ entry_of g o
+pub entry_is : (g : Graph) (x y : ℕ) (e : Option Entry) (o : Option (List ℕ)) → StatedEntryIs g x y e → LeastIs g x y o
+    → e ≡ entry_of g o
 entry_is g x y None o h least = ap (entry_of g) (same_option g x y None o h least)
 entry_is g x y (Some e) o h least = ap Some h.2 ∙ ap (entry_of g) (same_option g x y (Some h.0) o h.1 least)
 
 near : (g : Graph) (x y : ℕ) (p : List ℕ) → IsGraph g → IsLeast g x y p → weight_of g p < NO_DISTANCE
 near g x y p graph least =
     let short : length p ≤ g.vertices = simple_walk_is_short g p least.walk.walk (least_is_simple g p (x, y, least)) in
-    omega (arith, weight_most g graph p, mul-le (hops_of p) MOST_WEIGHT 128 4294967295 (omega (arith, short, graph.most)) (omega arith))
+    omega (
+      arith,
+      weight_most g graph p,
+      mul-le (hops_of p) MOST_WEIGHT 512 4294967295
+          (omega (arith, short, graph.most)) (omega arith),
+    )
 
 -- a vertex has no entry to itself
 pub none_itself : (g : Graph) (f : ℕ → ℕ → Option Entry) (x y : ℕ) → IsEntryTable g f → x ≡ y → None ≡ f x y
 none_itself g f x y h e = sym (subst (λ z. f x z ≡ None) e (h.own x))
 
 -- .. nor a pair without a walk
-pub none_far : (g : Graph) (f : ℕ → ℕ → Option Entry) (x y d : ℕ) → IsGraph g → IsEntryTable g f → x < g.vertices → y < g.vertices → x ≢ y → DistIs g x y d → d ≡ NO_DISTANCE → None ≡ f x y
+pub none_far : (g : Graph) (f : ℕ → ℕ → Option Entry) (x y d : ℕ) → IsGraph g → IsEntryTable g f → x < g.vertices
+    → y < g.vertices → x ≢ y → DistIs g x y d → d ≡ NO_DISTANCE → None ≡ f x y
 none_far g f x y d graph h p q apart dist far = at dist.0 dist.1 dist.2
   where
     at : (o : Option (List ℕ)) → LeastIs g x y o → d ≡ dist_in g o → None ≡ f x y
@@ -59,18 +66,22 @@ none_far g f x y d graph h p q apart dist far = at dist.0 dist.1 dist.2
     at (Some w) least e = absurd (omega (arith, near g x y w graph least, e, far))
 
 -- each other pair has the entry of its least walk
-pub some_here : (g : Graph) (f : ℕ → ℕ → Option Entry) (x y d k z : ℕ) → IsEntryTable g f → x < g.vertices → y < g.vertices → x ≢ y → DistIs g x y d → d ≢ NO_DISTANCE → HopsIs g x y k → NextIs g x y z → Some (record { dist = d; hops = k; next = z }) ≡ f x y
+pub some_here : (g : Graph) (f : ℕ → ℕ → Option Entry) (x y d k z : ℕ) → IsEntryTable g f → x < g.vertices
+    → y < g.vertices → x ≢ y → DistIs g x y d → d ≢ NO_DISTANCE → HopsIs g x y k → NextIs g x y z
+    → Some (record { dist = d; hops = k; next = z }) ≡ f x y
 some_here g f x y d k z h p q apart dist there hops next = at dist.0 dist.1 dist.2
   where
     same : (a b : Entry) → a.dist ≡ b.dist → a.hops ≡ b.hops → a.next ≡ b.next → a ≡ b
     same a b u v w = λ i. record { dist = u i; hops = v i; next = w i }
 
-    at : (o : Option (List ℕ)) → LeastIs g x y o → d ≡ dist_in g o → Some (record { dist = d; hops = k; next = z }) ≡ f x y
+    at : (o : Option (List ℕ)) → LeastIs g x y o → d ≡ dist_in g o
+        → Some (record { dist = d; hops = k; next = z }) ≡ f x y
     at None least e = absurd (there e)
     at (Some w) least e =
         let a : k ≡ hops_of w = hops.2 ∙ ap hops_in (same_option g x y hops.0 (Some w) hops.1 least) in
         let b : z ≡ second_of w = next.2 ∙ ap next_in (same_option g x y next.0 (Some w) next.1 least) in
-        ap Some (same (record { dist = d; hops = k; next = z }) (record { dist = weight_of g w; hops = hops_of w; next = second_of w }) e a b)
+        ap Some (same (record { dist = d; hops = k; next = z })
+        (record { dist = weight_of g w; hops = hops_of w; next = second_of w }) e a b)
         ∙ sym (entry_is g x y (f x y) (Some w) (h.entries x y p q apart) least)
 
 -- ---- the entries of a graph
@@ -82,7 +93,10 @@ table_is : (g : Graph) → IsEntryTable g (entry_table g)
 unfolding entry_table
 table_is g = record {
   own = λ x. ap (λ b. if b then None else entry_of g (least_is_some_option g x x).0) (eq-eqb x x refl);
-  entries = λ x y p q apart. subst (StatedEntryIs g x y) (sym (ap (λ b. if b then None else entry_of g (least_is_some_option g x y).0) (ne_eqb x y apart))) (at x y (least_is_some_option g x y).0 (least_is_some_option g x y).1);
+  entries =
+      λ x y p q apart. subst (StatedEntryIs g x y)
+      (sym (ap (λ b. if b then None else entry_of g (least_is_some_option g x y).0) (ne_eqb x y apart)))
+      (at x y (least_is_some_option g x y).0 (least_is_some_option g x y).1);
 }
   where
     at : (x y : ℕ) (o : Option (List ℕ)) → LeastIs g x y o → StatedEntryIs g x y (entry_of g o)
@@ -97,20 +111,31 @@ pub record IsStatedText (v : VersionSeen) : Type 0 where
   pub is : IsStatedOf v stated
   pub table : ℕ → ℕ → Option Entry
   pub entries : IsEntryTable v.graph table
-  pub text : text_of stated ≡ joined (codes "apsp certificate 1" ∷ named (codes "number") v.number ∷ named (codes "vertices") v.graph.vertices ∷ []) ++ (table_text (codes "edges") edge_line_text (edge_items v.graph) ++ (table_text (codes "pairs") pair_line_text (pair_items v.graph table) ++ (codes "end" ++ 10 ∷ [])))
+  pub text : text_of stated ≡ joined (codes "apsp certificate 1" ∷ named (codes "number") v.number ∷ named
+      (codes "vertices") v.graph.vertices ∷ [])
+      ++ (table_text (codes "edges") edge_line_text (edge_items v.graph)
+      ++ (table_text (codes "pairs") pair_line_text (pair_items v.graph table) ++ (codes "end" ++ 10 ∷ [])))
 
 none_or_some : {V : Type 0} (o : Option V) (P : Type 0) → (o ≡ None → P) → ((w : V) → o ≡ Some w → P) → P
 none_or_some None P a b = a refl
 none_or_some (Some w) P a b = b w refl
 
 edges_are : (g : Graph) → IsGraph g → table_map g.vertices (weight_at g) ≡ g.edges
-edges_are g graph = map.same_map pairs_total exact_pair (table_map g.vertices (weight_at g)) g.edges (λ q. elim (cases_inside g.vertices q.0 q.1) [
-  | inl i ↦ get_inside g.vertices (weight_at g) q.0 q.1 i.0 i.1
-  | inr o ↦ get_outside g.vertices (weight_at g) q.0 q.1 o ∙ none_or_some (weight_at g q.0 q.1) (None ≡ weight_at g q.0 q.1) (λ e. sym e) (λ w e. absurd (o (graph.edges q.0 q.1 w e).from (graph.edges q.0 q.1 w e).to))
-])
+edges_are g graph =
+    map.same_map pairs_total exact_pair (table_map g.vertices (weight_at g)) g.edges
+    (λ q. elim (cases_inside g.vertices q.0 q.1) [
+      | inl i ↦ get_inside g.vertices (weight_at g) q.0 q.1 i.0 i.1
+      | inr o ↦ get_outside g.vertices (weight_at g) q.0 q.1 o
+          ∙ none_or_some (weight_at g q.0 q.1) (None ≡ weight_at g q.0 q.1) (λ e. sym e)
+          (λ w e. absurd (o (graph.edges q.0 q.1 w e).from (graph.edges q.0 q.1 w e).to))
+    ])
 
-table_lines : {V : Type 0} (word : List ℕ) (line : (ℕ × ℕ) × V → List ℕ) (m : map.FinMap pair_cmp V) (items : List ((ℕ × ℕ) × V)) → map.entries m ≡ items → joined (named word (map.len m) ∷ each line (map.entries m)) ≡ table_text word line items
-table_lines word line m items e = ap (λ k. joined (named word k ∷ each line (map.entries m))) (map.len-entries m) ∙ ap (λ es. joined (named word (length es) ∷ each line es)) e
+table_lines : {V : Type 0} (word : List ℕ) (line : (ℕ × ℕ) × V → List ℕ) (m : map.FinMap pair_cmp V)
+    (items : List ((ℕ × ℕ) × V)) → map.entries m ≡ items
+    → joined (named word (map.len m) ∷ each line (map.entries m)) ≡ table_text word line items
+table_lines word line m items e =
+    ap (λ k. joined (named word k ∷ each line (map.entries m))) (map.len-entries m)
+    ∙ ap (λ es. joined (named word (length es) ∷ each line es)) e
 
 -- what a version states
 abbrev pub value_of : VersionSeen → Stated
@@ -125,10 +150,17 @@ value_is v =
       number = refl;
       graph = refl;
       inside = λ x y e h. elim (cases_inside g.vertices x y) [
-        | inl i ↦ (i.0, i.1, λ same. none_some e (none_itself g f x y (table_is g) same ∙ sym (get_inside g.vertices f x y i.0 i.1) ∙ h))
+        | inl i ↦ (
+          i.0,
+          i.1,
+          λ same. none_some e
+              (none_itself g f x y (table_is g) same ∙ sym (get_inside g.vertices f x y i.0 i.1) ∙ h),
+        )
         | inr o ↦ absurd (none_some e (sym (get_outside g.vertices f x y o) ∙ h))
       ];
-      entries = λ x y p q apart. subst (StatedEntryIs g x y) (sym (get_inside g.vertices f x y p q)) ((table_is g).entries x y p q apart);
+      entries =
+          λ x y p q apart. subst (StatedEntryIs g x y) (sym (get_inside g.vertices f x y p q))
+          ((table_is g).entries x y p q apart);
     }
   where
     none_some : (e : Entry) → None ≡ Some e → ⊥
@@ -145,6 +177,12 @@ stated_text v graph =
       is = value_is v;
       table = f;
       entries = table_is g;
-      text = text_blocks s ∙ ap (λ r. joined (head_lines s) ++ (r ++ (joined (pair_lines s) ++ (codes "end" ++ 10 ∷ [])))) (table_lines (codes "edges") edge_line_text g.edges (edge_items g) (ap map.entries (sym (edges_are g graph)) ∙ entries-map_of g.vertices (weight_at g)))
-          ∙ ap (λ r. joined (head_lines s) ++ (table_text (codes "edges") edge_line_text (edge_items g) ++ (r ++ (codes "end" ++ 10 ∷ [])))) (table_lines (codes "pairs") pair_line_text (table_map g.vertices f) (pair_items g f) (entries-map_of g.vertices f));
+      text = text_blocks s ∙ ap (λ r. joined (head_lines s)
+          ++ (r ++ (joined (pair_lines s) ++ (codes "end" ++ 10 ∷ []))))
+          (table_lines (codes "edges") edge_line_text g.edges (edge_items g)
+          (ap map.entries (sym (edges_are g graph)) ∙ entries-map_of g.vertices (weight_at g)))
+          ∙ ap (λ r. joined (head_lines s)
+          ++ (table_text (codes "edges") edge_line_text (edge_items g) ++ (r ++ (codes "end" ++ 10 ∷ []))))
+          (table_lines (codes "pairs") pair_line_text (table_map g.vertices f) (pair_items g f)
+          (entries-map_of g.vertices f));
     }

@@ -2,7 +2,7 @@
 use Rattle.std.specs.Prelude.{ℕ, zero, suc, ◌+◌, ◌-◌, ◌*◌, Bool, true, not, ◌==◌, ◌&&◌, ◌||◌, nat_lt, nat_le, if◌then◌else◌, List, [], ◌∷◌, length, codes, Option, Some, None, Result, Ok, Err}
 use Rattle.std.specs.FinMap as map
 use Rattle.std.specs.Str.{bytes_eq}
-use Rattle.apsp_model.specs.declared.TheConstants.{MOST_VERTICES, LEAST_WEIGHT, MOST_WEIGHT}
+use Rattle.apsp_model.specs.declared.TheConstants.{MOST_VERTICES, MOST_WEIGHT}
 use Rattle.apsp_model.specs.Graph.{pair_cmp}
 use Rattle.apsp_model.specs.Stated.{Stated, Entry}
 use Rattle.certificate.specs.declared.CertError.{CertError}
@@ -64,15 +64,14 @@ abbrev pub ends_fit : ℕ → ℕ × ℕ → Bool
 ends_fit n q = nat_lt q.0 n && (nat_lt q.1 n && not (q.0 == q.1))
 
 abbrev pub edge_fits : ℕ → (ℕ × ℕ) × ℕ → Bool
-edge_fits n e = ends_fit n e.0 && (nat_le LEAST_WEIGHT e.1 && nat_le e.1 MOST_WEIGHT)
+edge_fits n e = ends_fit n e.0 && nat_le e.1 MOST_WEIGHT
 
--- an entry of a pair from x
-abbrev pub entry_fits : ℕ → ℕ → Entry → Bool
-entry_fits n x e =
-    nat_le LEAST_WEIGHT e.dist && ((nat_le 1 e.hops && nat_le e.hops (n - 1)) && (nat_lt e.next n && not (e.next == x)))
+-- the number of edges and the next vertex of an entry of a pair from x
+abbrev pub entry_fits : ℕ → ℕ → ℕ → ℕ → Bool
+entry_fits n x hops next = (nat_le 1 hops && nat_le hops (n - 1)) && (nat_lt next n && not (next == x))
 
 abbrev pub pair_fits : ℕ → (ℕ × ℕ) × Entry → Bool
-pair_fits n e = ends_fit n e.0 && entry_fits n e.0.0 e.1
+pair_fits n e = ends_fit n e.0 && entry_fits n e.0.0 e.1.hops e.1.next
 
 -- a pair stands above the one before it
 abbrev pub rises : Option (ℕ × ℕ) → ℕ × ℕ → Bool

@@ -7,7 +7,7 @@ ghost use Rattle.certificate.specs.Answer.{rest_behind, Gives, edge_item, pair_i
 use crate::cuts::{five_numbers, three_numbers};
 use crate::lines::{Lines, line_at};
 use crate::{CertError, MOST_DIGITS};
-use apsp_model::{LEAST_WEIGHT, MOST_WEIGHT};
+use apsp_model::MOST_WEIGHT;
 use version_face::Entry;
 
 /// An edge, as a line states it.
@@ -87,8 +87,7 @@ fn edge_within(n: u32, numbers: [u64; 3]) -> Option<Edge>
     ensures { IsEdgeWithin n numbers result }
 {
     let [from, to, weight] = numbers;
-    let weight_fits = weight >= u64::from(LEAST_WEIGHT) && weight <= u64::from(MOST_WEIGHT);
-    if !ends_fit(n, from, to) || !weight_fits {
+    if !ends_fit(n, from, to) || weight > u64::from(MOST_WEIGHT) {
         return None;
     }
     Some(Edge {
@@ -104,7 +103,7 @@ fn pair_within(n: u32, numbers: [u64; 5]) -> Option<Pair>
     ensures { IsPairWithin n numbers result }
 {
     let [from, to, dist, hops, next] = numbers;
-    if !ends_fit(n, from, to) || !entry_fits(n, from, dist, hops, next) {
+    if !ends_fit(n, from, to) || !entry_fits(n, from, hops, next) {
         return None;
     }
     Some(Pair {
@@ -126,13 +125,13 @@ fn ends_fit(n: u32, from: u64, to: u64) -> bool
 }
 
 /// Whether these are in range for the entry of a pair from this vertex.
-fn entry_fits(n: u32, from: u64, dist: u64, hops: u64, next: u64) -> bool
+fn entry_fits(n: u32, from: u64, hops: u64, next: u64) -> bool
     requires { IsVertexCount n }
-    ensures { result ≡ entry_fits n from (record { dist = dist; hops = hops; next = next }) }
+    ensures { result ≡ entry_fits n from hops next }
 {
     let hops_fit = hops >= 1 && hops <= u64::from(n) - 1;
     let next_fits = next < u64::from(n) && next != from;
-    dist >= u64::from(LEAST_WEIGHT) && hops_fit && next_fits
+    hops_fit && next_fits
 }
 
 /// Whether a pair stands above the one before it.

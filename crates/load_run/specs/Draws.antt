@@ -1,7 +1,7 @@
 -- The generated input: numbers that are drawn one behind the other, and the updates that they make.
 use Rattle.std.specs.Prelude.{ℕ, zero, suc, ◌+◌, ◌-◌, ◌*◌, ◌/◌, ◌%◌, ◌==◌, nat_lt, if◌then◌else◌, List, [], ◌∷◌, Option, Some, None}
 use Rattle.apsp_model.specs.Star.{Star}
-use Rattle.apsp_model.specs.Command.{Command, Update}
+use Rattle.apsp_model.specs.Command.{Command, Star_update}
 use Rattle.graph_store.specs.Table.{map_of}
 use Rattle.load_run.specs.declared.draws.TheConstants.{MODULUS, MOST_DRAWN}
 
@@ -40,7 +40,7 @@ drawn_star n s = record { vertices = n; vertex = drawn s 1 % n; edges = map_of n
 abbrev pub drawn_updates : ℕ → ℕ → ℕ → List Command
 drawn_updates n seed zero = []
 drawn_updates n seed (suc k) =
-    Update (drawn_star n (drawn (seed % MODULUS) (k * draws_of_star n))) ∷ drawn_updates n seed k
+    Star_update (drawn_star n (drawn (seed % MODULUS) (k * draws_of_star n))) ∷ drawn_updates n seed k
 
 -- there are two for each vertex
 abbrev pub load_updates : ℕ → ℕ → List Command

@@ -29,6 +29,7 @@ pub fn make_updates<R: Threads + Sync, G: Gate>(
     requires workers { IsWorkerCount workers }
     ensures stands { OnOk result (Stands engine.new (load_updates engine.old.opening seed)) }
     ensures opening { OnOk result (engine.new.opening ≡ engine.old.opening) }
+    ensures present { OnOk result (engine.new.graph.vertices ≡ engine.old.opening) }
     ensures plain { OnOk result (engine.new.smooth ≡ false) }
 {
     law_advance();

@@ -17,20 +17,27 @@ use Rattle.network_replies.specs.Growing.{LinesGiven, as_stop}
 use Rattle.network_replies.proofs.Seen.{sink_at}
 
 -- the certificate of a version was written
-pub certificate_written : (r : Result (Unit {0}) Stop) (g : Result (Unit {0}) GiveError) (v : VersionSeen) (e : Engine) (old new : Option (List ℕ)) (before now : ℕ) → r ≡ as_stop g → v.graph ≡ e.graph → v.number ≡ length e.vertices → (s : Stated) × IsStatedOf v s × GivesText g old new before now (text_of s) → (text : List ℕ) × IsTextOf (version_of e) text × LinesGiven r (sink_at old before) (sink_at new now) text
+pub certificate_written : (r : Result (Unit {0}) Stop) (g : Result (Unit {0}) GiveError) (v : VersionSeen) (e : Engine)
+    (old new : Option (List ℕ)) (before now : ℕ) → r ≡ as_stop g → v.graph ≡ e.graph → v.number ≡ length e.vertices
+    → (s : Stated) × IsStatedOf v s × GivesText g old new before now (text_of s) → (text : List ℕ)
+    × IsTextOf (version_of e) text × LinesGiven r (sink_at old before) (sink_at new now) text
 certificate_written r g v e old new before now stopped graph number written =
     let same : v ≡ version_of e = λ i. record { number = number i; graph = graph i } in
     let F : VersionSeen → Type 0 = λ w. IsStatedOf w written.0 in
-    let G : Result (Unit {0}) Stop → Type 0 = λ z. LinesGiven z (sink_at old before) (sink_at new now) (text_of written.0) in
+    let G : Result (Unit {0}) Stop → Type 0 =
+    λ z. LinesGiven z (sink_at old before) (sink_at new now) (text_of written.0) in
     (text_of written.0, (written.0, subst F same written.1, refl), subst G (sym stopped) (at g written.2))
   where
-    at : (h : Result (Unit {0}) GiveError) → GivesText h old new before now (text_of written.0) → LinesGiven (as_stop h) (sink_at old before) (sink_at new now) (text_of written.0)
+    at : (h : Result (Unit {0}) GiveError) → GivesText h old new before now (text_of written.0)
+        → LinesGiven (as_stop h) (sink_at old before) (sink_at new now) (text_of written.0)
     at (Ok u) w = w
     at (Err give.Failed) w = w
     at (Err give.Memory) w = w
 
 -- .. or nothing of it, for want of memory
-pub certificate_begun : {A : Type 0} (r : Result A Stop) (e : Engine) (old : Option (List ℕ)) (before now : ℕ) → IsErrAnd r (λ x. x ≡ stop.Memory) → (text : List ℕ) × IsTextOf (version_of e) text × LinesGiven r (sink_at old before) (sink_at old now) text
+pub certificate_begun : {A : Type 0} (r : Result A Stop) (e : Engine) (old : Option (List ℕ)) (before now : ℕ)
+    → IsErrAnd r (λ x. x ≡ stop.Memory) → (text : List ℕ) × IsTextOf (version_of e) text
+    × LinesGiven r (sink_at old before) (sink_at old now) text
 certificate_begun (Ok a) e old before now h = absurd h
 certificate_begun {A = A} (Err x) e old before now h =
     let stated : Stated = value_of (version_of e) in

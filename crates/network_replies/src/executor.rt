@@ -4,7 +4,7 @@ ghost use Rattle.std.specs.Prelude.{◌≡◌, ◌<◌, IsSome, OnErr, OnOk, len
 ghost use Rattle.std.specs.Option.{ForSome};
 ghost use Rattle.apsp_model.specs.declared.TheConstants.{MOST_UPDATES};
 ghost use Rattle.block_run.specs.Run.{CanRun, HasRun};
-ghost use Rattle.apsp_model.specs.Command.{Update};
+ghost use Rattle.apsp_model.specs.Command.{Star_update};
 ghost use Rattle.apsp_model.specs.Limits.{IsWorkerCount};
 ghost use Rattle.history_engine.specs.Advance.{Advance};
 ghost use Rattle.history_engine.specs.Answers.{IsSpentBy};
@@ -82,11 +82,11 @@ impl<'a, R: Threads + Sync, G: Gate, B: Blocks> Executor<'a, R, G, B> {
     /// Makes an update. Where memory ran out, now or in an earlier update, the engine is spent, and has the
     /// graph and the counts from before.
     pub fn update(&self, engine: &mut Engine, star: &Star) -> Result<(), AllocError>
-        requires same { star.now.vertices ≡ engine.old.opening }
+        requires same { star.now.vertices ≡ engine.old.graph.vertices }
         requires few { length engine.old.vertices < MOST_UPDATES }
-        ensures advance { OnOk result (Advance engine.old (Update star.now) engine.new) }
+        ensures advance { OnOk result (Advance engine.old (Star_update star.now) engine.new) }
         ensures spent { OnErr result (IsSpentBy engine.old engine.new) }
-        ensures same { engine.new.opening ≡ engine.old.opening }
+        ensures same { engine.new.graph.vertices ≡ engine.old.graph.vertices }
     {
         match engine.star(self.rt, star, self.workers.count(), self.gate) {
             Ok(_) => Ok(()),
@@ -112,7 +112,7 @@ impl<'a, R: Threads + Sync, G: Gate, B: Blocks> Executor<'a, R, G, B> {
         requires can { CanRun engine.old block.now.plan block.now.asks }
         ensures ran { ForSome (B.readers self.now.blocks.now) (λ r.
             HasRun r engine.old block.now.plan block.now.asks result engine.new) }
-        ensures opening { engine.new.opening ≡ engine.old.opening }
+        ensures vertices { engine.new.graph.vertices ≡ engine.old.graph.vertices }
     {
         match self.blocks.run_block(engine, block.plan(), block.asks()) {
             Ok(answers) => Ok(answers),

@@ -4,7 +4,7 @@ ghost use Rattle.std.specs.Prelude.{◌≡◌, ◌≢◌, ◌<◌, ◌≤◌, �
 ghost use Rattle.std.specs.Option.{ForSome};
 ghost use Rattle.std.specs.List.{flat_map};
 ghost use Rattle.apsp_model.specs.declared.TheConstants.{MOST_VERTICES, MOST_UPDATES};
-ghost use Rattle.apsp_model.specs.Command.{Command, Update};
+ghost use Rattle.apsp_model.specs.Command.{Command, Star_update};
 ghost use Rattle.apsp_model.specs.Least.{LeastIs};
 ghost use Rattle.graph_store.specs.Making.{IsVertexCount};
 ghost use Rattle.graph_store.specs.Edges.{IsWeight};
@@ -83,7 +83,7 @@ impl Network {
 
     /// The number of vertices.
     pub fn vertices(&self) -> u32
-        ensures vertices { result ≡ self.now.opening }
+        ensures vertices { result ≡ self.now.graph.vertices }
         ensures most { result ≤ MOST_VERTICES }
     {
         self.engine.vertices()
@@ -102,9 +102,9 @@ impl Network {
         executor: &Executor<'_, R, G, B>,
         star: &Star,
     ) -> Result<(), AllocError>
-        requires same { star.now.vertices ≡ self.old.opening }
+        requires same { star.now.vertices ≡ self.old.graph.vertices }
         requires few { length self.old.vertices < MOST_UPDATES }
-        ensures made { OnOk result (Advance self.old (Update star.now) self.new) }
+        ensures made { OnOk result (Advance self.old (Star_update star.now) self.new) }
         ensures spent { OnErr result (IsSpentBy self.old self.new) }
     {
         executor.update(&mut self.engine, star)
@@ -118,12 +118,12 @@ impl Network {
         v: u32,
         weight: Option<u32>,
     ) -> Result<(), AllocError>
-        requires from { u < self.old.opening }
-        requires to { v < self.old.opening }
+        requires from { u < self.old.graph.vertices }
+        requires to { v < self.old.graph.vertices }
         requires apart { u ≢ v }
         requires weight { ForSome weight IsWeight }
         requires few { length self.old.vertices < MOST_UPDATES }
-        ensures made { OnOk result (Advance self.old (Update (star_with self.old.graph u v weight)) self.new) }
+        ensures made { OnOk result (Advance self.old (Star_update (star_with self.old.graph u v weight)) self.new) }
         ensures spent { OnErr result (IsSpentBy self.old self.new) }
     {
         self.engine.graph().star_into(u, &mut self.star);
@@ -163,8 +163,8 @@ impl Network {
     /// Puts the reply to `dist` behind the text.
     pub fn put_dist(&self, text: &mut String, x: u32, y: u32) -> Result<(), AllocError>
         requires not_spent { self.now.spent ≡ false }
-        requires from { x < self.now.opening }
-        requires to { y < self.now.opening }
+        requires from { x < self.now.graph.vertices }
+        requires to { y < self.now.graph.vertices }
         ensures { OnOk result
             (GrowsBy (IsDistReply self.now.graph x y) (string_bytes text.old) (string_bytes text.new)) }
     {
@@ -175,7 +175,7 @@ impl Network {
     /// Puts the reply to `row` behind the text.
     pub fn put_row(&self, text: &mut String, x: u32) -> Result<(), AllocError>
         requires not_spent { self.now.spent ≡ false }
-        requires inside { x < self.now.opening }
+        requires inside { x < self.now.graph.vertices }
         ensures { OnOk result (GrowsBy (IsRowReply self.now.graph x) (string_bytes text.old) (string_bytes text.new)) }
     {
         write!(text, "row {x}")?;
@@ -186,7 +186,7 @@ impl Network {
     /// Puts the distance from x to each vertex behind the text.
     fn put_distances(&self, text: &mut String, x: u32) -> Result<(), AllocError>
         requires not_spent { self.now.spent ≡ false }
-        requires inside { x < self.now.opening }
+        requires inside { x < self.now.graph.vertices }
         ensures { OnOk result ((row : List (Option ℕ)) × AreDistances self.now.graph x row
             × (string_bytes text.new ≡ string_bytes text.old ++ flat_map entry_text row)) }
     {
@@ -200,8 +200,8 @@ impl Network {
     /// What the least walk from x to y weighs.
     fn distance(&self, x: u32, y: u32) -> Option<u64>
         requires not_spent { self.now.spent ≡ false }
-        requires from { x < self.now.opening }
-        requires to { y < self.now.opening }
+        requires from { x < self.now.graph.vertices }
+        requires to { y < self.now.graph.vertices }
         ensures { IsDistance self.now.graph x y result }
     {
         match self.engine.least(x, y) {
@@ -213,8 +213,8 @@ impl Network {
     /// Puts the reply to `path` behind the text.
     pub fn put_path(&self, text: &mut String, x: u32, y: u32) -> Result<(), AllocError>
         requires not_spent { self.now.spent ≡ false }
-        requires from { x < self.now.opening }
-        requires to { y < self.now.opening }
+        requires from { x < self.now.graph.vertices }
+        requires to { y < self.now.graph.vertices }
         ensures { OnOk result
             (GrowsBy (IsPathReply self.now.graph x y) (string_bytes text.old) (string_bytes text.new)) }
     {
@@ -226,8 +226,8 @@ impl Network {
     /// Puts the least walk from x to y behind the text, or `none`.
     fn put_least(&self, text: &mut String, x: u32, y: u32) -> Result<(), AllocError>
         requires not_spent { self.now.spent ≡ false }
-        requires from { x < self.now.opening }
-        requires to { y < self.now.opening }
+        requires from { x < self.now.graph.vertices }
+        requires to { y < self.now.graph.vertices }
         ensures { OnOk result ((walk : Option (List ℕ)) × LeastIs self.now.graph x y walk
             × (string_bytes text.new ≡ string_bytes text.old ++ walk_text self.now.graph walk)) }
     {
@@ -252,7 +252,7 @@ impl Network {
     pub fn put_age(&self, text: &mut String, list: &[u32]) -> Result<(), AllocError>
         requires not_spent { self.now.spent ≡ false }
         requires some { 0 < length list.now }
-        requires inside { All (λ v. v < self.now.opening) list.now }
+        requires inside { All (λ v. v < self.now.graph.vertices) list.now }
         ensures { (commands : List Command) → Stands self.now commands
             → OnOk result
             (GrowsBy (IsAgeReply self.now.opening self.now.smooth commands list.now) (string_bytes text.old)
@@ -272,7 +272,6 @@ impl Network {
         ensures later { K.faults sink.old ≤ K.faults sink.new }
     {
         let mut version = self.take_version()?;
-        self.engine.graph_has_each_vertex();
         self.engine.fill(&mut version);
         let ended = given(write_certificate(&version, sink));
         self.version = Some(version);
@@ -281,7 +280,7 @@ impl Network {
 
     /// The room for a version. It is made where there is none yet.
     fn take_version(&mut self) -> Result<Version, AllocError>
-        ensures room { IfOk result (λ v. v.graph.vertices ≡ self.old.opening) }
+        ensures room { IfOk result (λ v. v.graph.vertices ≡ self.old.graph.vertices) }
         ensures same { self.new ≡ self.old }
     {
         match self.version.take() {

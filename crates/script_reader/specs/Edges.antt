@@ -2,7 +2,7 @@
 use Rattle.std.specs.Prelude.{ℕ, ◌+◌, Bool, not, ◌==◌, ◌||◌, nat_lt, nat_le, is_some, if◌then◌else◌, List, [], ◌∷◌, ◌++◌, count_by, Option, Some, None, Result, Ok}
 use Rattle.std.specs.List.{list_any, before_first, after_first}
 use Rattle.std.specs.FinMap as map
-use Rattle.apsp_model.specs.declared.TheConstants.{LEAST_WEIGHT, MOST_WEIGHT}
+use Rattle.apsp_model.specs.declared.TheConstants.{MOST_WEIGHT}
 use Rattle.apsp_model.specs.Star.{Star}
 use Rattle.graph_store.specs.Edges.{with_edge}
 use Rattle.numerals.specs.Numbers.{number_of}
@@ -24,7 +24,7 @@ abbrev pub vertex_at : ℕ → ℕ → List ℕ → Result ℕ Refusal
 vertex_at n place w = number_at place w >>= vertex_below n place
 
 abbrev pub is_no_weight : ℕ → Bool
-is_no_weight w = nat_lt w LEAST_WEIGHT || nat_lt MOST_WEIGHT w
+is_no_weight w = nat_lt MOST_WEIGHT w
 
 abbrev pub weight_in_range : ℕ → ℕ → Result ℕ Refusal
 weight_in_range place w = if is_no_weight w then refused WEIGHT place else Ok w

@@ -6,7 +6,7 @@ ghost use Rattle.script_reader.specs.Edges.{number_at, vertex_at, weight_at_word
 
 use crate::scan::Word;
 use crate::{Group, LineError, MOST_DIGITS, code, refused};
-use apsp_model::{LEAST_WEIGHT, MOST_WEIGHT};
+use apsp_model::MOST_WEIGHT;
 use graph_store::{Star, StarError};
 use numerals::number_of;
 
@@ -36,7 +36,7 @@ pub fn weight_at(word: Word<'_>) -> Result<u32, LineError>
     ensures { MeaningIs (weight_at_word word.entry.place word.entry.bytes.now) result }
 {
     let number = number_at(word.place, word.bytes)?;
-    if number < u64::from(LEAST_WEIGHT) || number > u64::from(MOST_WEIGHT) {
+    if number > u64::from(MOST_WEIGHT) {
         return Err(refused(code::WEIGHT, word.place));
     }
     Ok(number as u32)

@@ -66,7 +66,7 @@ fn scripts_are_answered(rt: HostRuntime) -> Result<(), Fail> {
         ),
         (
             "vertices 2\nstar 0 out 1:0\nstar 0 out 1:4294967296\nstar 0 out 1:4294967295\ndist 0 1\n",
-            "line 2 error 9 at 4\nline 3 error 9 at 4\ndist 0 1 4294967295\n",
+            "line 3 error 9 at 4\ndist 0 1 4294967295\n",
             1,
         ),
         ("vertices 2\nblock\n", "line 2 error 11 at 1\n", 1),
@@ -151,7 +151,7 @@ fn blocks_are_run(rt: HostRuntime) -> Result<(), Fail> {
         // Refused lines of a block are replied to at once, and change nothing of it.
         (
             "live --slots 2 --readers 32",
-            "block\nask 0 1\nvertices 2\nend\nblock\ndist 0 1\nblock\nask 0 1 since 1\nedge 0 1 0\nedge 0 1 7\nask 0 1 since 1\nend\nend\n",
+            "block\nask 0 1\nvertices 2\nend\nblock\ndist 0 1\nblock\nask 0 1 since 1\nedge 0 1 4294967296\nedge 0 1 7\nask 0 1 since 1\nend\nend\n",
             "line 1 error 1 at 1\nline 2 error 3 at 1\nline 4 error 3 at 1\nline 6 error 13 at 1\nline 7 error 13 at 1\nline 8 error 14 at 5\nline 9 error 9 at 4\nat 1 path 0 1 7 walk 0 1\nline 13 error 3 at 1\n",
             1,
         ),
@@ -434,7 +434,7 @@ fn certificates_are_given_and_checked(rt: HostRuntime) -> Result<(), Fail> {
             1,
         ),
         (
-            "apsp certificate 1\nnumber 1\nvertices 2\nedges 1\n0 1 0\n",
+            "apsp certificate 1\nnumber 1\nvertices 2\nedges 1\n0 1 4294967296\n",
             "certificate error 3 at 5\n",
             1,
         ),

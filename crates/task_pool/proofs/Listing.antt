@@ -21,8 +21,13 @@ once-none x = grind arith
 
 -- the numbers of a range, each once
 pub times-range : (x a n : ℕ) → times x (from_on a n) + once_below x a ≡ once_below x (a + n)
-times-range x a zero = let e : a + 0 ≡ a = omega arith in let f : once_below x (a + 0) ≡ once_below x a = ap (once_below x) e in omega arith
-times-range x a (suc n) = let e : a + suc n ≡ a + 1 + n = omega arith in let f : once_below x (a + suc n) ≡ once_below x (a + 1 + n) = ap (once_below x) e in let more = times-range x (a + 1) n in let one = once-next x a in omega arith
+times-range x a zero =
+    let e : a + 0 ≡ a = omega arith in let f : once_below x (a + 0) ≡ once_below x a = ap (once_below x) e in
+    omega arith
+times-range x a (suc n) =
+    let e : a + suc n ≡ a + 1 + n = omega arith in
+    let f : once_below x (a + suc n) ≡ once_below x (a + 1 + n) = ap (once_below x) e in
+    let more = times-range x (a + 1) n in let one = once-next x a in omega arith
 
 module _ {T : Type 0} where
   pub tasks_of-snoc : (ds : List (Done T)) (d : Done T) → tasks_of (ds ++ d ∷ []) ≡ tasks_of ds ++ d.task ∷ []

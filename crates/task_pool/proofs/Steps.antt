@@ -11,15 +11,19 @@ use Rattle.apsp_model.proofs.Totals.{total-set, total-append, total-only}
 use Rattle.task_pool.proofs.Times.{times-append}
 
 -- what stands at a place after one place was set
-set_gives : {A : Type 0} (xs : List A) (i j : ℕ) (new found : A) → get_elem? (set xs i new) j ≡ some found → ((j ≡ i) × (new ≡ found)) ⊎ ((j ≢ i) × (get_elem? xs j ≡ some found))
+set_gives : {A : Type 0} (xs : List A) (i j : ℕ) (new found : A) → get_elem? (set xs i new) j ≡ some found
+    → ((j ≡ i) × (new ≡ found)) ⊎ ((j ≢ i) × (get_elem? xs j ≡ some found))
 set_gives [] i j new found is = absurd (some-ne-none found (sym is))
 set_gives (x ∷ xs) zero zero new found is = inl (refl, some-injective new found is)
 set_gives (x ∷ xs) zero (suc j) new found is = inr ((λ same. omega arith), is)
 set_gives (x ∷ xs) (suc i) zero new found is = inr ((λ same. omega arith), is)
-set_gives (x ∷ xs) (suc i) (suc j) new found is = ⊎_elim (λ here. inl (ap suc here.0, here.1)) (λ there. let other = there.0 in inr ((λ same. other (omega arith)), there.1)) (set_gives xs i j new found is)
+set_gives (x ∷ xs) (suc i) (suc j) new found is =
+    ⊎_elim (λ here. inl (ap suc here.0, here.1))
+    (λ there. let other = there.0 in inr ((λ same. other (omega arith)), there.1)) (set_gives xs i j new found is)
 
 -- what stands at a place after one was put behind
-behind_gives : {A : Type 0} (xs : List A) (new found : A) (j : ℕ) → get_elem? (xs ++ new ∷ []) j ≡ some found → (get_elem? xs j ≡ some found) ⊎ (new ≡ found)
+behind_gives : {A : Type 0} (xs : List A) (new found : A) (j : ℕ) → get_elem? (xs ++ new ∷ []) j ≡ some found
+    → (get_elem? xs j ≡ some found) ⊎ (new ≡ found)
 behind_gives [] new found zero is = inr (some-injective new found is)
 behind_gives [] new found (suc j) is = absurd (some-ne-none found (sym is))
 behind_gives (x ∷ xs) new found zero is = inl is
@@ -41,9 +45,12 @@ abbrev pushed_len : Account → ℕ
 pushed_len v = length v.pushed
 
 -- one view becomes another
-idle_set : (views : List Account) (port : ℕ) (w : Account) → (w.parts ≡ 0 → (w.pushed ≡ []) × (w.took ≡ [])) → ((i : ℕ) (v : Account) → get_elem? views i ≡ some v → v.parts ≡ 0 → (v.pushed ≡ []) × (v.took ≡ []))
+idle_set : (views : List Account) (port : ℕ) (w : Account) → (w.parts ≡ 0 → (w.pushed ≡ []) × (w.took ≡ []))
+    → ((i : ℕ) (v : Account) → get_elem? views i ≡ some v → v.parts ≡ 0 → (v.pushed ≡ []) × (v.took ≡ []))
     → (i : ℕ) (v : Account) → get_elem? (set views port w) i ≡ some v → v.parts ≡ 0 → (v.pushed ≡ []) × (v.took ≡ [])
-idle_set views port w own others i v there none_left = ⊎_elim (λ t. subst (λ (u : Account). u.parts ≡ 0 → (u.pushed ≡ []) × (u.took ≡ [])) t.1 own none_left) (λ t. others i v t.1 none_left) (set_gives views port i w v there)
+idle_set views port w own others i v there none_left =
+    ⊎_elim (λ t. subst (λ (u : Account). u.parts ≡ 0 → (u.pushed ≡ []) × (u.took ≡ [])) t.1 own none_left)
+    (λ t. others i v t.1 none_left) (set_gives views port i w v there)
 
 zero_times : (x : ℕ) (xs : List ℕ) → xs ≡ [] → times x xs ≡ 0
 zero_times x xs none_there = ap (times x) none_there
@@ -77,8 +84,12 @@ pushes port v xs some_part items views r at =
     )
 
 -- who has all parts has all that was taken and pushed
-only : (views : List Account) (items : List ℕ) (port : ℕ) (v : Account) → Shares items views → get_elem? views port ≡ some v → v.parts ≡ ALL_PARTS → (g : Account → ℕ) → ((a : Account) → a.pushed ≡ [] → a.took ≡ [] → g a ≡ 0) → total g views ≡ g v
-only views items port v r at all g zeros = let parts = r.parts in total-only parts_of g views port v (λ j a there none_left. let e = r.idle j a there none_left in zeros a e.0 e.1) at (omega arith)
+only : (views : List Account) (items : List ℕ) (port : ℕ) (v : Account) → Shares items views
+    → get_elem? views port ≡ some v → v.parts ≡ ALL_PARTS → (g : Account → ℕ)
+    → ((a : Account) → a.pushed ≡ [] → a.took ≡ [] → g a ≡ 0) → total g views ≡ g v
+only views items port v r at all g zeros =
+    let parts = r.parts in total-only parts_of g views port v
+    (λ j a there none_left. let e = r.idle j a there none_left in zeros a e.0 e.1) at (omega arith)
 
 pub takes : (port : ℕ) (v : Account) → 0 < v.parts → Takes Shares port v 1 (Took v)
 takes port v some_part xs items views more few r at =
@@ -119,7 +130,8 @@ takes port v some_part xs items views more few r at =
     at_same (x ∷ xs) zero a b e = refl
     at_same (x ∷ xs) (suc i) a b e = at_same xs i a b e
 
-emptied_at : (items : List ℕ) (views : List Account) (port : ℕ) (v : Account) → items ≡ [] → Shares items views → get_elem? views port ≡ some v → Emptied v
+emptied_at : (items : List ℕ) (views : List Account) (port : ℕ) (v : Account) → items ≡ [] → Shares items views
+    → get_elem? views port ≡ some v → Emptied v
 emptied_at items views port v empty r at all x =
     let a = only views items port v r at all (took_of x) (λ u p t. zero_times x u.took t) in
     let b = only views items port v r at all (pushed_of x) (λ u p t. zero_times x u.pushed p) in
@@ -166,7 +178,8 @@ forks port v parts items views r at =
           (behind_gives (set views port w) u z i there);
     }
 
-pub merges : (port : ℕ) (v : Account) (other : ℕ) (w : Account) → 0 < v.parts → Merges Shares port v other w (both_of v w) (account 0 [] [])
+pub merges : (port : ℕ) (v : Account) (other : ℕ) (w : Account) → 0 < v.parts
+    → Merges Shares port v other w (both_of v w) (account 0 [] [])
 merges port v other w some_part items views r at apart at' =
     let b : Account = both_of v w in
     let z : Account = account 0 [] [] in record {
@@ -193,5 +206,6 @@ merges port v other w some_part items views r at apart at' =
           let a1 = total-set parts_of views port v b at in
           let a2 = total-set parts_of (set views port b) other w z at' in
           omega arith;
-      idle = idle_set (set views port b) other z (λ none_left. (refl, refl)) (idle_set views port b (λ none_left. absurd (omega arith)) r.idle);
+      idle = idle_set (set views port b) other z (λ none_left. (refl, refl))
+          (idle_set views port b (λ none_left. absurd (omega arith)) r.idle);
     }

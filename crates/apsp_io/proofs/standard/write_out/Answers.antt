@@ -11,4 +11,5 @@ returns-in_err-count-clause-part g c =
 
 pub loop-rest-preserved : goal.loop-rest-preserved
 loop-rest-preserved g c =
-    took_more _ _ _ _ _ _ c.in_ok-count.count c.loop-rest.invariant c.in_ok-count.ensures.bytes (grind (arith, common_steps))
+    took_more _ _ _ _ _ _ c.in_ok-count.count c.loop-rest.invariant c.in_ok-count.ensures.bytes
+    (grind (arith, common_steps))

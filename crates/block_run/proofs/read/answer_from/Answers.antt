@@ -8,5 +8,6 @@ returns c = record {
   not_older = omega (arith, c.if-number-least.false);
   x = refl;
   y = refl;
-  found = found_by c.args.version.now.graph c.args.ask.now.x c.args.ask.now.y _ c.in_ok-walk.walk (c.dist_row.ensures.cells c.args.ask.now.y c.requires.to) c.in_ok-walk.ensures;
+  found = found_by c.args.version.now.graph c.args.ask.now.x c.args.ask.now.y _ c.in_ok-walk.walk
+      (c.dist_row.ensures.cells c.args.ask.now.y c.requires.to) c.in_ok-walk.ensures;
 }

@@ -4,8 +4,11 @@ use Rattle.block_run.proofs.tests.run_two.Goals as goal
 
 pub live_block-requires-clause-can : goal.live_block-requires-clause-can
 live_block-requires-clause-can g c κs within =
-    let start : c.in_ok-plan.plan.start ≡ c.in_ok-engine.engine.graph = c.in_ok-plan.ensures.start ∙ c.graph.ensures.graph in
-    let three : c.in_ok-plan.plan.start.vertices ≡ 3 = ap (λ (x : Graph). x.vertices) start ∙ c.graph.ensures.same ∙ c.in_ok-engine.ensures.opening in
+    let start : c.in_ok-plan.plan.start ≡ c.in_ok-engine.engine.graph =
+    c.in_ok-plan.ensures.start ∙ c.graph.ensures.graph in
+    let three : c.in_ok-plan.plan.start.vertices ≡ 3 =
+    ap (λ (x : Graph). x.vertices) start
+    ∙ ap (λ (x : Graph). x.vertices) c.in_ok-engine.ensures.stands.outline.graph ∙ c.in_ok-engine.ensures.opening in
     record {
       not_spent = c.in_ok-engine.ensures.stands.not_spent;
       start = record {

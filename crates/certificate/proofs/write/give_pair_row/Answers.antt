@@ -13,5 +13,12 @@ pub returns-in_err-give_entry-clause-text : goal.returns-in_err-give_entry-claus
 returns-in_err-give_entry-clause-text g c = λ f h.
     let p = err_from_is_err_and c.from_residual.result c.from_residual.ensures.1 in
     let G = c.args.version.now.graph in
-    let P : Option Entry → Type 0 = λ o. GivesText (Err c.in_err-give_entry.field-0.0) (g.K.Sink.held c.cells.sink) (g.K.Sink.held c.give_entry.new.sink) (g.K.Sink.faults c.cells.sink) (g.K.Sink.faults c.give_entry.new.sink) (items_text pair_line_text (item_list (c.args.x, c.cells.y) o)) in
-    rw (p.1, p.2) (row_stops pair_line_text (g.K.Sink.held c.args.sink.now) (g.K.Sink.held c.cells.sink) (g.K.Sink.held c.give_entry.new.sink) (g.K.Sink.faults c.args.sink.now) (g.K.Sink.faults c.cells.sink) (g.K.Sink.faults c.give_entry.new.sink) c.in_err-give_entry.field-0.0 (f c.args.x) c.args.x c.cells.y G.vertices (omega (arith, c.cells-test.true, c.vertices-y-end.ensures.vertices)) (c.cells.invariant.0 f h) (subst P (c.entry.ensures f h) c.in_err-give_entry.ensures.text))
+    let P : Option Entry → Type 0 =
+    λ o. GivesText (Err c.in_err-give_entry.field-0.0) (g.K.Sink.held c.cells.sink)
+    (g.K.Sink.held c.give_entry.new.sink) (g.K.Sink.faults c.cells.sink) (g.K.Sink.faults c.give_entry.new.sink)
+    (items_text pair_line_text (item_list (c.args.x, c.cells.y) o)) in
+    rw (p.1, p.2) (row_stops pair_line_text (g.K.Sink.held c.args.sink.now) (g.K.Sink.held c.cells.sink)
+    (g.K.Sink.held c.give_entry.new.sink) (g.K.Sink.faults c.args.sink.now) (g.K.Sink.faults c.cells.sink)
+    (g.K.Sink.faults c.give_entry.new.sink) c.in_err-give_entry.field-0.0 (f c.args.x) c.args.x c.cells.y G.vertices
+    (omega (arith, c.cells-test.true, c.vertices-y-end.ensures.vertices)) (c.cells.invariant.0 f h)
+    (subst P (c.entry.ensures f h) c.in_err-give_entry.ensures.text))

@@ -10,25 +10,72 @@ pub returns-in_err-give_head-clause-text : goal.returns-in_err-give_head-clause-
 returns-in_err-give_head-clause-text g c =
     let p = err_from_is_err_and c.from_residual.result c.from_residual.ensures.1 in
     let v = c.args.version.now in
-    let T : IsStatedText v = stated_text v c.in_err-give_head.ensures.graph in
-    (T.stated, T.is, rw (p.1, p.2) (stops_in_first (joined (codes "apsp certificate 1" ∷ named (codes "number") v.number ∷ named (codes "vertices") v.graph.vertices ∷ [])) (table_text (codes "edges") edge_line_text (edge_items v.graph)) (table_text (codes "pairs") pair_line_text (pair_items v.graph T.table)) (codes "end" ++ 10 ∷ []) (text_of T.stated) T.text c.in_err-give_head.field-0.0 (g.K.Sink.held c.args.sink.now) (g.K.Sink.held c.give_head.new.sink) (g.K.Sink.faults c.args.sink.now) (g.K.Sink.faults c.give_head.new.sink) c.in_err-give_head.ensures.text))
+    let T : IsStatedText v = stated_text v c.in_err-give_head.ensures.graph in (
+      T.stated,
+      T.is,
+      rw (p.1, p.2) (stops_in_first
+          (joined (codes "apsp certificate 1" ∷ named (codes "number") v.number ∷ named (codes "vertices")
+          v.graph.vertices ∷ [])) (table_text (codes "edges") edge_line_text (edge_items v.graph))
+          (table_text (codes "pairs") pair_line_text (pair_items v.graph T.table)) (codes "end" ++ 10 ∷ [])
+          (text_of T.stated) T.text c.in_err-give_head.field-0.0 (g.K.Sink.held c.args.sink.now)
+          (g.K.Sink.held c.give_head.new.sink) (g.K.Sink.faults c.args.sink.now) (g.K.Sink.faults c.give_head.new.sink)
+          c.in_err-give_head.ensures.text),
+    )
 
 pub returns-in_err-give_edges-clause-text : goal.returns-in_err-give_edges-clause-text
 returns-in_err-give_edges-clause-text g c =
     let p = err_from_is_err_and c.from_residual-in_err-give_edges.result c.from_residual-in_err-give_edges.ensures.1 in
     let v = c.args.version.now in
-    let T : IsStatedText v = stated_text v c.in_ok-give_head.ensures.graph in
-    (T.stated, T.is, rw (p.1, p.2) (stops_in_second (joined (codes "apsp certificate 1" ∷ named (codes "number") v.number ∷ named (codes "vertices") v.graph.vertices ∷ [])) (table_text (codes "edges") edge_line_text (edge_items v.graph)) (table_text (codes "pairs") pair_line_text (pair_items v.graph T.table)) (codes "end" ++ 10 ∷ []) (text_of T.stated) T.text c.in_err-give_edges.field-0.0 (g.K.Sink.held c.args.sink.now) (g.K.Sink.held c.give_head.new.sink) (g.K.Sink.held c.give_edges.new.sink) (g.K.Sink.faults c.args.sink.now) (g.K.Sink.faults c.give_head.new.sink) (g.K.Sink.faults c.give_edges.new.sink) c.in_ok-give_head.ensures.text c.in_ok-give_head.ensures.later c.in_err-give_edges.ensures.text))
+    let T : IsStatedText v = stated_text v c.in_ok-give_head.ensures.graph in (
+      T.stated,
+      T.is,
+      rw (p.1, p.2) (stops_in_second
+          (joined (codes "apsp certificate 1" ∷ named (codes "number") v.number ∷ named (codes "vertices")
+          v.graph.vertices ∷ [])) (table_text (codes "edges") edge_line_text (edge_items v.graph))
+          (table_text (codes "pairs") pair_line_text (pair_items v.graph T.table)) (codes "end" ++ 10 ∷ [])
+          (text_of T.stated) T.text c.in_err-give_edges.field-0.0 (g.K.Sink.held c.args.sink.now)
+          (g.K.Sink.held c.give_head.new.sink) (g.K.Sink.held c.give_edges.new.sink) (g.K.Sink.faults c.args.sink.now)
+          (g.K.Sink.faults c.give_head.new.sink) (g.K.Sink.faults c.give_edges.new.sink) c.in_ok-give_head.ensures.text
+          c.in_ok-give_head.ensures.later c.in_err-give_edges.ensures.text),
+    )
 
 pub returns-in_err-give_pairs-clause-text : goal.returns-in_err-give_pairs-clause-text
 returns-in_err-give_pairs-clause-text g c =
     let p = err_from_is_err_and c.from_residual-in_err-give_pairs.result c.from_residual-in_err-give_pairs.ensures.1 in
     let v = c.args.version.now in
-    let T : IsStatedText v = stated_text v c.in_ok-give_head.ensures.graph in
-    (T.stated, T.is, rw (p.1, p.2) (stops_in_third (joined (codes "apsp certificate 1" ∷ named (codes "number") v.number ∷ named (codes "vertices") v.graph.vertices ∷ [])) (table_text (codes "edges") edge_line_text (edge_items v.graph)) (table_text (codes "pairs") pair_line_text (pair_items v.graph T.table)) (codes "end" ++ 10 ∷ []) (text_of T.stated) T.text c.in_err-give_pairs.field-0.0 (g.K.Sink.held c.args.sink.now) (g.K.Sink.held c.give_head.new.sink) (g.K.Sink.held c.give_edges.new.sink) (g.K.Sink.held c.give_pairs.new.sink) (g.K.Sink.faults c.args.sink.now) (g.K.Sink.faults c.give_head.new.sink) (g.K.Sink.faults c.give_edges.new.sink) (g.K.Sink.faults c.give_pairs.new.sink) c.in_ok-give_head.ensures.text c.in_ok-give_head.ensures.later c.in_ok-give_edges.ensures.text c.in_ok-give_edges.ensures.later (c.in_err-give_pairs.ensures.text T.table T.entries)))
+    let T : IsStatedText v = stated_text v c.in_ok-give_head.ensures.graph in (
+      T.stated,
+      T.is,
+      rw (p.1, p.2) (stops_in_third
+          (joined (codes "apsp certificate 1" ∷ named (codes "number") v.number ∷ named (codes "vertices")
+          v.graph.vertices ∷ [])) (table_text (codes "edges") edge_line_text (edge_items v.graph))
+          (table_text (codes "pairs") pair_line_text (pair_items v.graph T.table)) (codes "end" ++ 10 ∷ [])
+          (text_of T.stated) T.text c.in_err-give_pairs.field-0.0 (g.K.Sink.held c.args.sink.now)
+          (g.K.Sink.held c.give_head.new.sink) (g.K.Sink.held c.give_edges.new.sink)
+          (g.K.Sink.held c.give_pairs.new.sink)
+          (g.K.Sink.faults c.args.sink.now) (g.K.Sink.faults c.give_head.new.sink)
+          (g.K.Sink.faults c.give_edges.new.sink)
+          (g.K.Sink.faults c.give_pairs.new.sink) c.in_ok-give_head.ensures.text c.in_ok-give_head.ensures.later
+          c.in_ok-give_edges.ensures.text c.in_ok-give_edges.ensures.later
+          (c.in_err-give_pairs.ensures.text T.table T.entries)),
+    )
 
 pub returns-clause-text : goal.returns-clause-text
 returns-clause-text g c =
     let v = c.args.version.now in
-    let T : IsStatedText v = stated_text v c.in_ok-give_head.ensures.graph in
-    (T.stated, T.is, last_part (joined (codes "apsp certificate 1" ∷ named (codes "number") v.number ∷ named (codes "vertices") v.graph.vertices ∷ [])) (table_text (codes "edges") edge_line_text (edge_items v.graph)) (table_text (codes "pairs") pair_line_text (pair_items v.graph T.table)) (codes "end" ++ 10 ∷ []) (text_of T.stated) T.text c.give_fixed.result (g.K.Sink.held c.args.sink.now) (g.K.Sink.held c.give_head.new.sink) (g.K.Sink.held c.give_edges.new.sink) (g.K.Sink.held c.give_pairs.new.sink) (g.K.Sink.held c.give_fixed.new.sink) (g.K.Sink.faults c.args.sink.now) (g.K.Sink.faults c.give_head.new.sink) (g.K.Sink.faults c.give_edges.new.sink) (g.K.Sink.faults c.give_pairs.new.sink) (g.K.Sink.faults c.give_fixed.new.sink) c.in_ok-give_head.ensures.text c.in_ok-give_head.ensures.later c.in_ok-give_edges.ensures.text c.in_ok-give_edges.ensures.later (c.in_ok-give_pairs.ensures.text T.table T.entries) c.in_ok-give_pairs.ensures.later c.give_fixed.ensures.text)
+    let T : IsStatedText v = stated_text v c.in_ok-give_head.ensures.graph in (
+      T.stated,
+      T.is,
+      last_part (joined (codes "apsp certificate 1" ∷ named (codes "number") v.number ∷ named
+          (codes "vertices") v.graph.vertices ∷ [])) (table_text (codes "edges") edge_line_text (edge_items v.graph))
+          (table_text (codes "pairs") pair_line_text (pair_items v.graph T.table)) (codes "end" ++ 10 ∷ [])
+          (text_of T.stated) T.text c.give_fixed.result (g.K.Sink.held c.args.sink.now)
+          (g.K.Sink.held c.give_head.new.sink) (g.K.Sink.held c.give_edges.new.sink)
+          (g.K.Sink.held c.give_pairs.new.sink)
+          (g.K.Sink.held c.give_fixed.new.sink) (g.K.Sink.faults c.args.sink.now) (g.K.Sink.faults c.give_head.new.sink)
+          (g.K.Sink.faults c.give_edges.new.sink) (g.K.Sink.faults c.give_pairs.new.sink)
+          (g.K.Sink.faults c.give_fixed.new.sink) c.in_ok-give_head.ensures.text c.in_ok-give_head.ensures.later
+          c.in_ok-give_edges.ensures.text c.in_ok-give_edges.ensures.later
+          (c.in_ok-give_pairs.ensures.text T.table T.entries) c.in_ok-give_pairs.ensures.later
+          c.give_fixed.ensures.text,
+    )

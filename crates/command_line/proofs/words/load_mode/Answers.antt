@@ -9,4 +9,8 @@ same_mode a b c d rest p q = λ i. drawn_of (p i) (q i) rest
 
 pub returns-in-len2-up-clause-mode : goal.returns-in-len2-up-clause-mode
 returns-in-len2-up-clause-mode c =
-    c.drawn_mode.ensures.mode ∙ same_mode _ _ _ _ (map (string_bytes {Z = Global}) (take (length c.args.words.now - 2) (drop 2 c.args.words.now))) c.as_str.ensures.value c.as_str-in-len2-up.ensures.value ∙ sym (ap load_of (two_first (string_bytes {Z = Global}) c.args.words.now _ _ c.n-item.is c.seed-item.is c.in-len2-up.len_at_least))
+    c.drawn_mode.ensures.mode ∙ same_mode _ _ _ _
+    (map (string_bytes {Z = Global}) (take (length c.args.words.now - 2) (drop 2 c.args.words.now)))
+    c.as_str.ensures.value c.as_str-in-len2-up.ensures.value
+    ∙ sym (ap load_of (two_first (string_bytes {Z = Global}) c.args.words.now _ _ c.n-item.is c.seed-item.is
+    c.in-len2-up.len_at_least))

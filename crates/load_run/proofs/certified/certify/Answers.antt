@@ -12,4 +12,6 @@ no_no s (Yes k) x y r is verdict lawful = cc
 no_no s (No a b q) x y r is verdict lawful = verdict.0 lawful
 
 pub unreachable-requires : goal.unreachable-requires
-unreachable-requires c = no_no _ _ _ _ _ c.in-No.is c.check.ensures (c.law_version.ensures.lawful c.args.version.now _ c.in_ok-stated.ensures)
+unreachable-requires c =
+    no_no _ _ _ _ _ c.in-No.is c.check.ensures
+    (c.law_version.ensures.lawful c.args.version.now _ c.in_ok-stated.ensures)

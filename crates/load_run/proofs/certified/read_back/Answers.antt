@@ -8,7 +8,8 @@ use Rattle.certificate.specs.Answer.{GivesOrMemory}
 use Rattle.load_run.proofs.certified.read_back.Goals as goal
 
 -- what is read of a text in the grammar is what the text states
-read : (P : Stated → Type 0) (r : Result Stated CertError) (x s : Stated) → r ≡ Ok x → GivesOrMemory (λ s. s) r (Ok s) → P s → P x
+read : (P : Stated → Type 0) (r : Result Stated CertError) (x s : Stated) → r ≡ Ok x → GivesOrMemory (λ s. s) r (Ok s)
+    → P s → P x
 read P (Ok y) x s is given h = let same : s ≡ x = cc in subst P same h
 read P (Err (Shape k)) x s is given h = cc
 read P (Err (Order k)) x s is given h = cc
@@ -18,5 +19,7 @@ read P (Err Memory) x s is given h = cc
 pub returns-in-Ok : goal.returns-in-Ok
 returns-in-Ok c =
     let t = c.requires.text in
-    let writable = c.law_version.ensures.writable c.args.version.now t.0 c.vertices-vertices.ensures.graph c.requires.digits t.1 in
-    read (λ s. IsStatedOf c.args.version.now s) _ _ t.0 c.in-Ok.is (c.read_certificate.ensures.only t.0 (record { writable = writable; text = c.bytes.ensures ∙ t.2 })) t.1
+    let writable =
+    c.law_version.ensures.writable c.args.version.now t.0 c.vertices-vertices.ensures.graph c.requires.digits t.1 in
+    read (λ s. IsStatedOf c.args.version.now s) _ _ t.0 c.in-Ok.is
+    (c.read_certificate.ensures.only t.0 (record { writable = writable; text = c.bytes.ensures ∙ t.2 })) t.1

@@ -17,11 +17,15 @@ cells-preserved c =
     subst (λ k. RowDistancesAre s x k c.if-x-y.row.pairs c.if-x-y.row.sum) one (elim c.if-x-y.branch [
       | then-x-y+in-Some w ↦
           let is = sym w.entry.ensures.entry ∙ ap (option_map stated) w.in-Some.is in
-          row_more s x y c.cells.row.pairs c.cells.row.sum _ c.if-x-y.row.pairs c.if-x-y.row.sum c.cells.invariant w.if-x-y.true is
-          (entry_few s x y _ c.vertices-y-end.ensures.range.range.graph c.requires.lawful c.requires.from inside w.if-x-y.true is)
+          row_more s x y c.cells.row.pairs c.cells.row.sum _ c.if-x-y.row.pairs c.if-x-y.row.sum c.cells.invariant
+          w.if-x-y.true is
+          (entry_few s x y _ c.vertices-y-end.ensures.range.range.graph c.requires.lawful c.requires.from inside
+          w.if-x-y.true is)
           (ap (λ (r : Distances). r.pairs) w.row-is) (ap (λ (r : Distances). r.sum) w.row-is)
       | then-x-y+in-None w ↦
           let is = sym w.entry.ensures.entry ∙ ap (option_map stated) w.in-None.is in
-          subst (λ (r : Distances). RowDistancesAre s x (suc y) r.pairs r.sum) (sym w.row-is) (row_without s x y c.cells.row.pairs c.cells.row.sum c.cells.invariant w.if-x-y.true is)
-      | else-x-y w ↦ subst (λ (r : Distances). RowDistancesAre s x (suc y) r.pairs r.sum) (sym w.row-is) (row_own s x y c.cells.row.pairs c.cells.row.sum c.cells.invariant w.if-x-y.false)
+          subst (λ (r : Distances). RowDistancesAre s x (suc y) r.pairs r.sum) (sym w.row-is)
+          (row_without s x y c.cells.row.pairs c.cells.row.sum c.cells.invariant w.if-x-y.true is)
+      | else-x-y w ↦ subst (λ (r : Distances). RowDistancesAre s x (suc y) r.pairs r.sum) (sym w.row-is)
+          (row_own s x y c.cells.row.pairs c.cells.row.sum c.cells.invariant w.if-x-y.false)
     ])

@@ -25,7 +25,12 @@ into-preserved c s given =
     let h = c.into.invariant s given in
     let one : suc c.into.u ≡ c.into.u + 1 = omega arith in
     let here = c.vertex.ensures.vertex ∙ h.vertex in
-    subst (λ k. HasBoth c.args.star.now.vertices c.args.star.now.vertex s k c.if-u-vertex.star c.if-u-vertex.draws) one (elim c.if-u-vertex.branch [
-      | then-u-vertex w ↦ both_step _ _ _ c.into.u c.into.star c.into.draws c.if-u-vertex.star c.if-u-vertex.draws h (λ e. w.if-u-vertex.true (e ∙ sym here)) (w.star-is ∙ w.put_in.ensures ∙ ap (λ o. with_maybe_edge c.into.star (c.into.u, c.into.star.vertex) o) w.weight.ensures.weight) (w.draws-is ∙ w.weight.ensures.place)
-      | else-u-vertex w ↦ both_skip _ _ _ c.into.u c.into.star c.into.draws c.if-u-vertex.star c.if-u-vertex.draws h (w.if-u-vertex.false ∙ here) w.star-is w.draws-is
+    subst (λ k. HasBoth c.args.star.now.vertices c.args.star.now.vertex s k c.if-u-vertex.star c.if-u-vertex.draws) one
+    (elim c.if-u-vertex.branch [
+      | then-u-vertex w ↦ both_step _ _ _ c.into.u c.into.star c.into.draws c.if-u-vertex.star c.if-u-vertex.draws h
+          (λ e. w.if-u-vertex.true (e ∙ sym here))
+          (w.star-is ∙ w.put_in.ensures ∙ ap (λ o. with_maybe_edge c.into.star (c.into.u, c.into.star.vertex) o)
+          w.weight.ensures.weight) (w.draws-is ∙ w.weight.ensures.place)
+      | else-u-vertex w ↦ both_skip _ _ _ c.into.u c.into.star c.into.draws c.if-u-vertex.star c.if-u-vertex.draws h
+          (w.if-u-vertex.false ∙ here) w.star-is w.draws-is
     ])

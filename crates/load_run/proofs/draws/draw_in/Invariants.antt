@@ -3,4 +3,6 @@ use Rattle.load_run.specs.Stars.{HasOut, HasBoth}
 use Rattle.load_run.proofs.draws.draw_in.Given as goal
 
 abbrev pub invariant-into : goal.invariant-into
-invariant-into l = (s : ℕ) → HasOut l.fn.star.vertices l.fn.star.vertex s l.fn.star.vertices l.fn.star l.fn.draws → HasBoth l.fn.star.vertices l.fn.star.vertex s l.u l.star l.draws
+invariant-into l =
+    (s : ℕ) → HasOut l.fn.star.vertices l.fn.star.vertex s l.fn.star.vertices l.fn.star l.fn.draws
+    → HasBoth l.fn.star.vertices l.fn.star.vertex s l.u l.star l.draws

@@ -5,4 +5,5 @@ use Rattle.network_replies.specs.Replies.{number_text}
 use Rattle.network_replies.proofs.replies.put_list.Given as goal
 
 abbrev pub invariant-loop-vertex : goal.invariant-loop-vertex
-invariant-loop-vertex l = string_bytes l.text ≡ string_bytes l.initial.text ++ flat_map number_text (take l.vertex-index l.list)
+invariant-loop-vertex l =
+    string_bytes l.text ≡ string_bytes l.initial.text ++ flat_map number_text (take l.vertex-index l.list)

@@ -9,10 +9,12 @@ loop-vertex-init c = refl
 
 pub loop-vertex-preserved : goal.loop-vertex-preserved
 loop-vertex-preserved c =
-    let put = c.in_ok-put_number-2.ensures ∙ ap (λ k. string_bytes c.loop-vertex.text ++ number_text k) c.from.ensures in
+    let put =
+    c.in_ok-put_number-2.ensures ∙ ap (λ k. string_bytes c.loop-vertex.text ++ number_text k) c.from.ensures in
     numbers_more _ _ _ _ _ _ c.in-Some.ensures.steps put c.loop-vertex.invariant
 
 pub returns : goal.returns
 returns c =
-    walk_put _ _ _ _ _ _ _ _ (numbers_all _ _ _ c.in-None.ensures.steps.0 c.loop-vertex.invariant) c.in_ok-put_number.ensures c.in_ok-push_str.ensures.bytes
+    walk_put _ _ _ _ _ _ _ _ (numbers_all _ _ _ c.in-None.ensures.steps.0 c.loop-vertex.invariant)
+    c.in_ok-put_number.ensures c.in_ok-push_str.ensures.bytes
     (c.into_iter-vertex-iterator.ensures.into_iter_gives ∙ c.vertices-vertex-items.ensures) c.weight.ensures

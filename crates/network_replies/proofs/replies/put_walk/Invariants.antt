@@ -5,4 +5,6 @@ use Rattle.network_replies.specs.Replies.{number_text}
 use Rattle.network_replies.proofs.replies.put_walk.Given as goal
 
 abbrev pub invariant-loop-vertex : goal.invariant-loop-vertex
-invariant-loop-vertex l = string_bytes l.text ++ flat_map number_text l.vertex-iterator ≡ string_bytes l.initial.text ++ flat_map number_text l.initial.vertex-iterator
+invariant-loop-vertex l =
+    string_bytes l.text ++ flat_map number_text l.vertex-iterator ≡ string_bytes l.initial.text
+    ++ flat_map number_text l.initial.vertex-iterator

@@ -6,7 +6,8 @@ use Rattle.script_reader.proofs.cutter.line_part.Goals as goal
 pub returns-in-Some-clause-part : goal.returns-in-Some-clause-part
 returns-in-Some-clause-part c =
     let piece = c.args.piece.now in
-    let at = newline_at piece c.in-Some.place c.in-Some.ensures.0.high (λ j p. c.in-Some.ensures.0.before j (omega arith) p) c.in-Some.ensures.1 in
+    let at = newline_at piece c.in-Some.place c.in-Some.ensures.0.high
+    (λ j p. c.in-Some.ensures.0.before j (omega arith) p) c.in-Some.ensures.1 in
     ap (λ k. take k piece) (sym at.place)
 
 pub returns-in-None-clause-part : goal.returns-in-None-clause-part

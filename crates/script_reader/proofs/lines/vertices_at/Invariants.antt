@@ -6,4 +6,5 @@ use Rattle.script_reader.proofs.lines.vertices_at.Given as goal
 
 abbrev pub invariant-loop-word : goal.invariant-loop-word
 invariant-loop-word l =
-    (vertices_at l.n l.word-iterator.place (words_left l.word-iterator) >>= (λ us. Ok (l.items.items ++ us))) ≡ vertices_at l.n l.words.place (words_left l.words)
+    (vertices_at l.n l.word-iterator.place (words_left l.word-iterator) >>= (λ us. Ok (l.items.items ++ us))) ≡
+    vertices_at l.n l.words.place (words_left l.words)

@@ -24,7 +24,8 @@ loop-who-preserved g c =
     let p = c.in-Ok-push.ensures.items in
     let f = c.in-Ok-filled.ensures in
     let all : List (WorkerState g.row.T.Denot) = c.loop-who.all.items in
-    let d1 : WorkerState g.row.T.Denot = record { owner = c.in-Ok-filled.owner; passes = c.new.result; done = c.new-in-loop-who.result; short = _ } in
+    let d1 : WorkerState g.row.T.Denot =
+    record { owner = c.in-Ok-filled.owner; passes = c.new.result; done = c.new-in-loop-who.result; short = _ } in
     let empty = c.new.ensures.items in
     let bare = c.new-in-loop-who.ensures.items in
     let parts = ap (λ (h : Account). h.parts) f.1 in
@@ -35,7 +36,10 @@ loop-who-preserved g c =
     let was_len = inv.len in record {
       len = omega arith;
       own = rw p (All-push OwnsAll all d1 inv.own (f.0, parts));
-      fresh = rw p (All-push IsFresh all d1 inv.fresh ((λ x. let t = ap (λ (h : Account). times x h.took) f.1 in let e = ap (took_in x) empty in omega arith), bare));
+      fresh = rw p (All-push IsFresh all d1 inv.fresh (
+        (λ x. let t = ap (λ (h : Account). times x h.took) f.1 in let e = ap (took_in x) empty in omega arith),
+        bare,
+      ));
       from = refl;
       pushed = λ x.
           let a = ap (total (pushed_at x)) p in
@@ -56,4 +60,5 @@ returns-clause-pushed g c x =
     let test = c.loop-who-test.false in
     let end = c.loop-who.auto.who-end in
     let who_is : c.loop-who.who ≡ c.args.workers = omega arith in
-    inv.pushed x ∙ ap (once_below x) (inv.from ∙ (ap (λ (k : ℕ). k * c.args.tasks / c.args.workers) who_is ∙ mul-div_cancel_left c.args.tasks (omega arith)))
+    inv.pushed x ∙ ap (once_below x) (inv.from
+    ∙ (ap (λ (k : ℕ). k * c.args.tasks / c.args.workers) who_is ∙ mul-div_cancel_left c.args.tasks (omega arith)))

@@ -42,7 +42,8 @@ take_in-requires g c =
     let low : k < length items = omega arith in
     let t = one_of ts k (omega arith) in
     let d0 : WorkerState g.row.T.Denot = c.index_mut.result.now in
-    let i = at_place (IsState c.args.parts (get_or ts k t)) items k d0 d0 low c.index_mut.ensures.value (inv.low k t d0 (omega arith)) in
+    let i = at_place (IsState c.args.parts (get_or ts k t)) items k d0 d0 low c.index_mut.ensures.value
+    (inv.low k t d0 (omega arith)) in
     let fit = subst (λ (n : ℕ). IsEmptyPassOf (get_or ts n t) c.in-Some.pass) k_is (f.2 t) in
     let parts = i.parts_are in
     let some = c.requires.some in
@@ -69,18 +70,31 @@ loop-pass-preserved g c =
     let k_is : length less ≡ k = omega (arith, c.len-at.ensures) in
     let low : k < length items = omega arith in
     let d0 : WorkerState g.row.T.Denot = c.index_mut.result.now in
-    let d1 : WorkerState g.row.T.Denot = record { owner = c.take_in.new.owner; passes = d0.passes; done = d0.done; short = d0.short } in
+    let d1 : WorkerState g.row.T.Denot =
+    record { owner = c.take_in.new.owner; passes = d0.passes; done = d0.done; short = d0.short } in
     let is = c.index_mut.ensures.value in
     let e = c.take_in.ensures in
-    let fit : (t : Thief) → IsEmptyPassOf (get_or ts k t) pass = λ t. subst (λ (n : ℕ). IsEmptyPassOf (get_or ts n t) pass) k_is (f.2 t) in
-    let i : (t : Thief) → IsState c.args.parts (get_or ts k t) d0 = λ t. at_place (IsState c.args.parts (get_or ts k t)) items k d0 d0 low is (inv.low k t d0 (omega arith)) in
+    let fit : (t : Thief) → IsEmptyPassOf (get_or ts k t) pass =
+    λ t. subst (λ (n : ℕ). IsEmptyPassOf (get_or ts n t) pass) k_is (f.2 t) in
+    let i : (t : Thief) → IsState c.args.parts (get_or ts k t) d0 =
+    λ t. at_place (IsState c.args.parts (get_or ts k t)) items k d0 d0 low is (inv.low k t d0 (omega arith)) in
     let t0 = one_of ts k (omega arith) in
-    let pushed = ap (λ (h : Account). h.pushed) e.both ∙ (ap (λ (l : List ℕ). (worker_view d0.owner).pushed ++ l) (fit t0).2 ∙ nil_right (worker_view d0.owner).pushed) in record {
+    let pushed =
+    ap (λ (h : Account). h.pushed) e.both
+    ∙ (ap (λ (l : List ℕ). (worker_view d0.owner).pushed ++ l) (fit t0).2 ∙ nil_right (worker_view d0.owner).pushed)
+    in record {
       len = len;
       fit = f.0;
-      low = λ j t d l. low_down c.args.parts ts items k d1 low (λ j t d l. inv.low j t d (omega arith)) j t d (omega arith);
-      high = λ j t d hi lt. high_down (c.args.parts + 1) ts items k d1 (λ j t d h l. inv.high j t d (omega arith) (omega arith)) (λ t. state_more c.args.parts (get_or ts k t) d0 d1 (view pass) (i t) e.same (fit t).1 e.both) j t d (omega arith) (omega arith);
-      same = λ j d lt. same_set start items k d1 (λ j d l. inv.same j d (omega arith)) (λ d l. same_then (get_or start k d) d0 d1 (at_place (OwnerAlone (get_or start k d)) items k d0 d low is (inv.same k d (omega arith))) refl refl pushed) j d (omega arith);
+      low = λ j t d l. low_down c.args.parts ts items k d1 low (λ j t d l. inv.low j t d (omega arith)) j t d
+          (omega arith);
+      high = λ j t d hi lt. high_down (c.args.parts + 1) ts items k d1
+          (λ j t d h l. inv.high j t d (omega arith) (omega arith))
+          (λ t. state_more c.args.parts (get_or ts k t) d0 d1 (view pass) (i t) e.same (fit t).1 e.both) j t d
+          (omega arith) (omega arith);
+      same = λ j d lt. same_set start items k d1 (λ j d l. inv.same j d (omega arith))
+          (λ d l. same_then (get_or start k d) d0 d1
+          (at_place (OwnerAlone (get_or start k d)) items k d0 d low is (inv.same k d (omega arith))) refl refl pushed)
+          j d (omega arith);
       took = λ x.
           let s = total-step (took_at x) items k d0 d1 low is in
           let a = ap (λ (h : Account). times x h.took) e.both in

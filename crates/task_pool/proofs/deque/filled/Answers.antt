@@ -15,7 +15,8 @@ loop-i-preserved c =
     let room = inv.room in
     let more = h.same.3 in record {
       flavor = h.same.1 ∙ inv.flavor;
-      view = h.rule.0 ∙ (λ k. account ((inv.view k).parts) (((inv.view k).pushed) ++ (c.args.from + c.loop-i.i) ∷ []) ((inv.view k).took)) ∙ ap (λ (l : List ℕ). account ALL_PARTS l []) (from_on-snoc c.args.from c.loop-i.i);
+      view = h.rule.0 ∙ (λ k. account ((inv.view k).parts) (((inv.view k).pushed) ++ (c.args.from + c.loop-i.i) ∷ [])
+          ((inv.view k).took)) ∙ ap (λ (l : List ℕ). account ALL_PARTS l []) (from_on-snoc c.args.from c.loop-i.i);
       index = h.rule.1 ∙ ap (λ (n : ℕ). n + 1) inv.index;
       room = omega arith;
     }

@@ -9,7 +9,8 @@ invariant-loop-task l = record {
   flavor : worker_flavor l.owner ≡ 0;
   parts : (worker_view l.owner).parts ≡ ALL_PARTS;
   pushed : (worker_view l.owner).pushed ≡ (worker_view l.initial.owner).pushed;
-  took : (x : ℕ) → times x (worker_view l.owner).took ≡ times x (worker_view l.initial.owner).took + times x l.all.items;
+  took : (x : ℕ) → times x (worker_view l.owner).took ≡ times x (worker_view l.initial.owner).took + times x
+      l.all.items;
 }
 
 abbrev pub decreases-loop-task : goal.decreases-loop-task

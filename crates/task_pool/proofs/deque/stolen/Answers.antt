@@ -10,5 +10,6 @@ steal_as-requires-clause-takes c = takes _ _ c.requires.2
 
 pub steal_as-requires-clause-empty : goal.steal_as-requires-clause-empty
 steal_as-requires-clause-empty c =
-    let P : ℕ → Type 0 = λ f. FindsFew Shares (min f 1) c.args.pass.now.id (view c.args.pass.now) (Emptied (view c.args.pass.now)) in
+    let P : ℕ → Type 0 =
+    λ f. FindsFew Shares (min f 1) c.args.pass.now.id (view c.args.pass.now) (Emptied (view c.args.pass.now)) in
     subst P (sym c.requires.1) (finds_few c.args.pass.now.id (view c.args.pass.now))

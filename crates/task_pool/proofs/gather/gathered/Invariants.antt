@@ -9,7 +9,8 @@ invariant-loop-state g l = record {
   own : All OwnsAll l.states.items;
   rights : All (λ d. All (IsRight (g.J.Job.gives l.job) l.tasks) d.done.items) l.states.items;
   right : All (IsRight (g.J.Job.gives l.job) l.tasks) l.done.items;
-  sums : (x : ℕ) → x < l.tasks → times x (tasks_of l.done.items) + total (did_at x) l.states.items + total (pushed_at x) l.states.items ≡ 1 + total (took_at x) l.states.items;
+  sums : (x : ℕ) → x < l.tasks → times x (tasks_of l.done.items) + total (did_at x) l.states.items + total (pushed_at x)
+      l.states.items ≡ 1 + total (took_at x) l.states.items;
 }
 
 abbrev pub decreases-loop-state : goal.decreases-loop-state

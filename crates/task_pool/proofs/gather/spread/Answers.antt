@@ -14,8 +14,21 @@ for_each_mut-requires-clause-accepts g c κs within = λ i p low is.
     let few = c.requires.workers in
     let low_t : i < length ts = omega arith in
     let t = one_of ts i low_t in
-    let d = at_place (IsState (ALL_PARTS - length ts) (get_or ts i t)) all i p.now p.now low is (c.requires.states.each i t p.now low) in
+    let d = at_place (IsState (ALL_PARTS - length ts) (get_or ts i t)) all i p.now p.now low is
+    (c.requires.states.each i t p.now low) in
     let parts = d.parts_are in
-    let row = at_place (λ (z : WorkerState g.row.J-Out.Denot). IsRow ts z.passes.items) all i p.now p.now low is (c.requires.rows i p.now low) in
-    let worked = at_place (HasWorked (g.J.Job.gives c.args.job.now) c.args.tasks) all i p.now p.now low is (c.requires.worked i p.now low) in
-    (c.requires.tasks, ((low_t, few.1), (c.requires.fifo, ((d.flavor, omega arith), (row, (worked, search sendable depth 20))))))
+    let row =
+    at_place (λ (z : WorkerState g.row.J-Out.Denot). IsRow ts z.passes.items) all i p.now p.now low is
+    (c.requires.rows i p.now low) in
+    let worked =
+    at_place (HasWorked (g.J.Job.gives c.args.job.now) c.args.tasks) all i p.now p.now low is
+    (c.requires.worked i p.now low) in (
+      c.requires.tasks,
+      (
+        (low_t, few.1),
+        (
+          c.requires.fifo,
+          ((d.flavor, omega arith), (row, (worked, search sendable depth 20))),
+        ),
+      ),
+    )

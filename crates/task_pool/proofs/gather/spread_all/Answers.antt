@@ -16,10 +16,14 @@ drop_none (y ∷ ys) (suc n) few = drop_none ys n (omega arith)
 whole : {A : Type 0} (xs ys : List A) → length xs ≡ length ys → xs ++ drop (length xs) ys ≡ xs
 whole xs ys len = ap (λ l. xs ++ l) (drop_none ys (length xs) (omega arith)) ∙ nil_right xs
 
-owned : {T : Type 0} (n : ℕ) (ts : List Thief) (xs ys : List (WorkerState T)) → length xs ≡ length ys → ((j : ℕ) (d : WorkerState T) → j < length ys → SameOwner (get_or ys j d) (get_or xs j d)) → AreStates n ts ys → AreStates n ts xs
+owned : {T : Type 0} (n : ℕ) (ts : List Thief) (xs ys : List (WorkerState T)) → length xs ≡ length ys
+    → ((j : ℕ) (d : WorkerState T) → j < length ys → SameOwner (get_or ys j d) (get_or xs j d)) → AreStates n ts ys
+    → AreStates n ts xs
 owned n ts xs ys len same all = let was = all.len in record {
   len = omega arith;
-  each = λ j t d low. let s = same j d (omega arith) in let i = all.each j t d (omega arith) in record { deque = s.deque ∙ i.deque; flavor = s.flavor ∙ i.flavor; parts_are = s.parts ∙ i.parts_are };
+  each = λ j t d low. let s =
+      same j d (omega arith) in let i = all.each j t d (omega arith) in
+      record { deque = s.deque ∙ i.deque; flavor = s.flavor ∙ i.flavor; parts_are = s.parts ∙ i.parts_are };
 }
 
 take_whole : {A : Type 0} (n : ℕ) (xs : List A) → length xs ≤ n → take n xs ≡ xs
@@ -28,7 +32,8 @@ take_whole (suc n) [] few = refl
 take_whole zero (x ∷ xs) few = absurd (omega arith)
 take_whole (suc n) (x ∷ xs) few = ap (λ l. x ∷ l) (take_whole n xs (omega arith))
 
-fin_is : {A : Type 0} (n : ℕ) (xs ys : List A) → n ≡ length ys → length xs ≡ length ys → take n (xs ++ drop (length xs) ys) ≡ xs
+fin_is : {A : Type 0} (n : ℕ) (xs ys : List A) → n ≡ length ys → length xs ≡ length ys
+    → take n (xs ++ drop (length xs) ys) ≡ xs
 fin_is n xs ys one two = ap (take n) (whole xs ys two) ∙ take_whole n xs (omega arith)
 
 pub returns-clause-states : goal.returns-clause-states
@@ -39,8 +44,12 @@ returns-clause-states g c =
     let v : zs ≡ ys = c.as_mut_slice.ensures.value in
     let l : length xs ≡ length zs = c.spread.auto.states in
     let len : length xs ≡ length ys = l ∙ ap length v in
-    let same = subst (λ (z : List (WorkerState g.row.J-Out.Denot)). (j : ℕ) (d : WorkerState g.row.J-Out.Denot) → j < length z → SameOwner (get_or z j d) (get_or xs j d)) v c.spread.ensures.own in
-    subst (AreStates (ALL_PARTS - length c.args.thieves.now) c.args.thieves.now) (sym (fin_is c.args.states.now.len xs ys c.args.states.now.ok.0 len)) (owned (ALL_PARTS - length c.args.thieves.now) c.args.thieves.now xs ys len same c.requires.states)
+    let same =
+    subst (λ (z : List (WorkerState g.row.J-Out.Denot)). (j : ℕ) (d : WorkerState g.row.J-Out.Denot) → j < length z
+    → SameOwner (get_or z j d) (get_or xs j d)) v c.spread.ensures.own in
+    subst (AreStates (ALL_PARTS - length c.args.thieves.now) c.args.thieves.now)
+    (sym (fin_is c.args.states.now.len xs ys c.args.states.now.ok.0 len))
+    (owned (ALL_PARTS - length c.args.thieves.now) c.args.thieves.now xs ys len same c.requires.states)
 
 pub returns-clause-pushed : goal.returns-clause-pushed
 returns-clause-pushed g c x =
@@ -50,5 +59,8 @@ returns-clause-pushed g c x =
     let v : zs ≡ ys = c.as_mut_slice.ensures.value in
     let l : length xs ≡ length zs = c.spread.auto.states in
     let len : length xs ≡ length ys = l ∙ ap length v in
-    let same = subst (λ (z : List (WorkerState g.row.J-Out.Denot)). (j : ℕ) (d : WorkerState g.row.J-Out.Denot) → j < length z → SameOwner (get_or z j d) (get_or xs j d)) v c.spread.ensures.own in
-    ap (total (pushed_at x)) (fin_is c.args.states.now.len xs ys c.args.states.now.ok.0 len) ∙ total-equal (pushed_at x) (pushed_at x) xs ys len (λ j d low. ap (times x) (same j d (omega arith)).pushed)
+    let same =
+    subst (λ (z : List (WorkerState g.row.J-Out.Denot)). (j : ℕ) (d : WorkerState g.row.J-Out.Denot) → j < length z
+    → SameOwner (get_or z j d) (get_or xs j d)) v c.spread.ensures.own in
+    ap (total (pushed_at x)) (fin_is c.args.states.now.len xs ys c.args.states.now.ok.0 len)
+    ∙ total-equal (pushed_at x) (pushed_at x) xs ys len (λ j d low. ap (times x) (same j d (omega arith)).pushed)

@@ -9,4 +9,6 @@ if_ok P Q (Err e) h f = tt
 pub returns-clause-each : goal.returns-clause-each
 returns-clause-each g c =
     let gives = g.J.Job.gives c.args.job.now in
-    if_ok _ _ c.unwrapped.result c.unwrapped.ensures (λ v is. answers_right gives c.args.tasks c.in_ok-done.done.items c.in_ok-places.places.items v.items c.in_ok-done.ensures.right c.in_ok-places.ensures is)
+    if_ok _ _ c.unwrapped.result c.unwrapped.ensures
+    (λ v is. answers_right gives c.args.tasks c.in_ok-done.done.items c.in_ok-places.places.items v.items
+    c.in_ok-done.ensures.right c.in_ok-places.ensures is)

@@ -18,7 +18,9 @@ stolen-requires c =
     let items = c.args.passes.now.items in
     let low : at < length items = omega arith in
     let p0 : Passed = c.index_mut.result.now in
-    let fit : IsEmptyPassOf (get_or ts at th) p0 = at_place (IsEmptyPassOf (get_or ts at th)) items at p0 p0 low c.index_mut.ensures.value (row.1.each at th p0 low) in
+    let fit : IsEmptyPassOf (get_or ts at th) p0 =
+    at_place (IsEmptyPassOf (get_or ts at th)) items at p0 p0 low c.index_mut.ensures.value
+    (row.1.each at th p0 low) in
     let mine : IsEmptyPassOf th p0 = subst (λ (s : Thief). IsEmptyPassOf s p0) (sym is_t) fit in
     let one = mine.1 in
     (mine.0, subst (λ (s : Thief). stealer_flavor s ≡ 0) (sym is_t) (c.requires.fifo at th low_t), omega arith)
@@ -36,15 +38,24 @@ returns-clause-row c =
     let low : at < length items = omega arith in
     let p0 : Passed = c.index_mut.result.now in
     let p1 : Passed = c.stolen.new.pass in
-    let fit : IsEmptyPassOf (get_or ts at th) p0 = at_place (IsEmptyPassOf (get_or ts at th)) items at p0 p0 low c.index_mut.ensures.value (row.1.each at th p0 low) in
+    let fit : IsEmptyPassOf (get_or ts at th) p0 =
+    at_place (IsEmptyPassOf (get_or ts at th)) items at p0 p0 low c.index_mut.ensures.value
+    (row.1.each at th p0 low) in
     let k = kept c.stolen.result (view p0) (view p1) c.stolen.ensures.took c.stolen.ensures.none in
-    row_set ts items at p1 row (λ t. (subst (λ (s : Thief). IsPassOf (stealer_deque s) p1) (is_t ∙ get_or_default ts at th t low_t) c.stolen.ensures.same.0, k.0 ∙ fit.1, k.1 ∙ fit.2))
+    row_set ts items at p1 row (λ t. (
+      subst (λ (s : Thief). IsPassOf (stealer_deque s) p1)
+          (is_t ∙ get_or_default ts at th t low_t) c.stolen.ensures.same.0,
+      k.0 ∙ fit.1,
+      k.1 ∙ fit.2,
+    ))
 
 pub returns-clause-took : goal.returns-clause-took
 returns-clause-took c x =
-    let k = kept c.stolen.result (view c.index_mut.result.now) (view c.stolen.new.pass) c.stolen.ensures.took c.stolen.ensures.none in
+    let k = kept c.stolen.result (view c.index_mut.result.now) (view c.stolen.new.pass) c.stolen.ensures.took
+    c.stolen.ensures.none in
     let ok = c.args.passes.now.ok.0 in
     let len = c.requires.row.0 in
-    let s = total-step (λ (p : Passed). times x (view p).took) c.args.passes.now.items c.args.at c.index_mut.result.now c.stolen.new.pass (omega (arith, c.requires.at)) c.index_mut.ensures.value in
+    let s = total-step (λ (p : Passed). times x (view p).took) c.args.passes.now.items c.args.at c.index_mut.result.now
+    c.stolen.new.pass (omega (arith, c.requires.at)) c.index_mut.ensures.value in
     let more = k.2 x in
     omega arith

@@ -8,20 +8,34 @@ returns-in-Vertices-clause-reply g c = λ s has. rw c.in-Vertices.is ([], refl, 
 pub execute_in_block-requires : goal.execute_in_block-requires
 execute_in_block-requires g c =
     let was = c.requires.stands in
-    let same = block_vertices c.args.self.now.network c.args.self.now.block c.in-Some.network c.in-Some-block.block was.0 (search rules) (search rules) was.1 in record {
-      fits = (c.args.self.now.readers, fits_in c.args.self.now.network c.args.self.now.block c.args.self.now.readers c.in-Some.network c.in-Some-block.block c.args.line (search rules) (search rules) same c.requires.fits);
-      few = room_in c.args.self.now.network c.args.self.now.block c.in-Some.network c.in-Some-block.block was.0 (search rules) (search rules) was.1 was.2;
+    let same =
+    block_vertices c.args.self.now.network c.args.self.now.block c.in-Some.network c.in-Some-block.block was.0
+    (search rules) (search rules) was.1 in record {
+      fits = (
+        c.args.self.now.readers,
+        fits_in c.args.self.now.network c.args.self.now.block c.args.self.now.readers
+            c.in-Some.network c.in-Some-block.block c.args.line (search rules) (search rules) same c.requires.fits,
+      );
+      few = room_in c.args.self.now.network c.args.self.now.block c.in-Some.network c.in-Some-block.block was.0
+          (search rules) (search rules) was.1 was.2;
       goes_on = c.requires.goes_on;
     }
 
 pub returns-in-Some-block : goal.returns-in-Some-block
 returns-in-Some-block g c =
     let was = c.requires.stands in
-    let same = block_vertices c.args.self.now.network c.args.self.now.block c.in-Some.network c.in-Some-block.block was.0 (search rules) (search rules) was.1 in
-    let fits = fits_in c.args.self.now.network c.args.self.now.block c.args.self.now.readers c.in-Some.network c.in-Some-block.block c.args.line (search rules) (search rules) same c.requires.fits in record {
+    let same =
+    block_vertices c.args.self.now.network c.args.self.now.block c.in-Some.network c.in-Some-block.block was.0
+    (search rules) (search rules) was.1 in
+    let fits =
+    fits_in c.args.self.now.network c.args.self.now.block c.args.self.now.readers c.in-Some.network
+    c.in-Some-block.block c.args.line (search rules) (search rules) same c.requires.fits in record {
       stands = λ s h smooth readers.
-          c.execute_in_block.ensures c.in-Some.network s (inside_as c.args.self.now.network c.args.self.now.block c.in-Some.network c.in-Some-block.block s (search rules) (search rules) h);
-      reply = λ s h. grows_by_none _ _ _ (silent_inside _ s.vertices s.smooth s.commands c.args.self.now.readers c.in-Some-block.block c.args.line fits);
+          c.execute_in_block.ensures c.in-Some.network s
+          (inside_as c.args.self.now.network c.args.self.now.block c.in-Some.network c.in-Some-block.block s
+          (search rules) (search rules) h);
+      reply = λ s h. grows_by_none _ _ _ (silent_inside _ s.vertices s.smooth s.commands c.args.self.now.readers
+          c.in-Some-block.block c.args.line fits);
       cutter = refl;
       smooth = refl;
       readers = refl;
@@ -32,7 +46,9 @@ returns-in-Some-block g c =
 pub returns-in_ok-new-2 : goal.returns-in_ok-new-2
 returns-in_ok-new-2 g c = record {
   stands = λ s h smooth readers.
-      begun_when c.args.self.now.network c.args.self.now.block c.in-Some.network c.in_ok-new-2.field-0 s c.args.line c.args.self.now.readers _ _ (search rules) (search rules) (search rules) readers c.in_ok-new-2.ensures c.graph.ensures c.number.ensures c.requires.fits h;
+      begun_when c.args.self.now.network c.args.self.now.block c.in-Some.network c.in_ok-new-2.field-0 s c.args.line
+      c.args.self.now.readers _ _ (search rules) (search rules) (search rules) readers c.in_ok-new-2.ensures
+      c.graph.ensures c.number.ensures c.requires.fits h;
   reply = λ s h. rw c.in-Block.is ([], refl, sym (append-nil _));
   cutter = refl;
   smooth = refl;

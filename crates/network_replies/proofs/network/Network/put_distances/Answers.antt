@@ -14,4 +14,11 @@ pub returns : goal.returns
 returns c =
     let size = ap (λ (g : Graph). g.vertices) c.graph.ensures.graph in
     let seen = ap (λ (e : EngineSeen). e.graph.vertices) c.self.view_is in
-    row_whole _ _ _ _ _ (omega (arith, c.loop-y-test.false, c.loop-y.auto.y-end, c.vertices-y-end.ensures.vertices, size, seen)) c.loop-y.invariant
+    row_whole _ _ _ _ _ (omega (
+      arith,
+      c.loop-y-test.false,
+      c.loop-y.auto.y-end,
+      c.vertices-y-end.ensures.vertices,
+      size,
+      seen,
+    )) c.loop-y.invariant

@@ -3,4 +3,6 @@ use Rattle.network_replies.proofs.Texts.{row_replied}
 use Rattle.network_replies.proofs.network.Network.put_row.Goals as goal
 
 pub returns : goal.returns
-returns c = row_replied _ _ _ (string_bytes c.args.text.now) _ _ _ c.in_ok-write.ensures.bytes c.in_ok-put_distances.ensures c.push.ensures.bytes
+returns c =
+    row_replied _ _ _ (string_bytes c.args.text.now) _ _ _ c.in_ok-write.ensures.bytes c.in_ok-put_distances.ensures
+    c.push.ensures.bytes

@@ -9,5 +9,6 @@ returns-clause-kept c =
     let kept = c.self.inside.kept in
     let size : c.len-room.result ≡ length kept.items = omega (arith, c.len-room.ensures, kept.ok.0) in
     c.extend_within.ensures.items
-    ∙ kept_within kept.items c.args.bytes.now c.min-count.result c.self.invariant.size (c.min-count.ensures ∙ ap (λ n. min (MOST_LINE_BYTES - n) (length c.args.bytes.now)) size)
+    ∙ kept_within kept.items c.args.bytes.now c.min-count.result c.self.invariant.size
+    (c.min-count.ensures ∙ ap (λ n. min (MOST_LINE_BYTES - n) (length c.args.bytes.now)) size)
     ∙ ap (λ (t : Cutting). take MOST_LINE_BYTES (t.kept ++ c.args.bytes.now)) c.self.view_is
