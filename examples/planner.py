@@ -25,12 +25,13 @@ def arguments():
 
 
 def detour(network, streets, u, v, start, to):
-    """The least way with the street between u and v closed."""
-    network.cut(u, v)
-    network.cut(v, u)
+    """The least way with the street between u and v closed, in both directions where it has both."""
+    closed = [ends for ends in ((u, v), (v, u)) if ends in streets]
+    for ends in closed:
+        network.cut(*ends)
     way = network.path(start, to)
-    network.edge(u, v, streets[u, v])
-    network.edge(v, u, streets[v, u])
+    for ends in closed:
+        network.edge(*ends, streets[ends])
     return way
 
 
@@ -41,17 +42,18 @@ def told(way):
 def main():
     given = arguments()
     town = towns.Town(given.town)
+    start, to = town.crossing(given.start), town.crossing(given.to)
     with apsp.Network(town.crossings) as network:
         town.enter(network)
-        way = network.path(given.start, given.to)
+        way = network.path(start, to)
         if way is None:
-            print(f"no way leads from {given.start} to {given.to}")
+            print(f"no way leads from {start} to {to}")
             return
-        print(f"from {given.start} to {given.to}: {way.distance} m by {told(way)}")
+        print(f"from {start} to {to}: {way.distance} m by {told(way)}")
         print("closed     more m  the way then")
         detours = []
         for u, v in zip(way.vertices, way.vertices[1:]):
-            other = detour(network, town.streets, u, v, given.start, given.to)
+            other = detour(network, town.streets, u, v, start, to)
             more = other.distance - way.distance if other else None
             print(f"{u:>3} - {v:<3}  {'none' if more is None else more:>6}  {told(other) if other else ''}")
             detours.append((more, u, v, other))

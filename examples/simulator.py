@@ -18,16 +18,19 @@ COLOURS = ["#1f5fa8", "#e08a1e", "#2e8b57", "#c0282d", "#7b4aa0", "#8a6d3b"]
 
 class Walker:
     def __init__(self, start, goal):
-        self.trail, self.goal = [start], goal
+        self.trail, self.goal, self.stuck = [start], goal, False
 
     def has_arrived(self):
-        return self.trail[-1] == self.goal
+        return self.stuck or self.trail[-1] == self.goal
 
     def step(self, network):
-        """Goes one street of the least way, and tells which."""
-        way = network.path(self.trail[-1], self.goal).vertices
-        self.trail.append(way[1])
-        return way[0], way[1]
+        """Goes one street of the least way, and tells which; none where no way leads to the goal any more."""
+        way = network.path(self.trail[-1], self.goal)
+        if way is None:
+            self.stuck = True
+            return None
+        self.trail.append(way.vertices[1])
+        return way.vertices[0], way.vertices[1]
 
 
 def walkers_of(town, count):
@@ -40,7 +43,8 @@ def walkers_of(town, count):
 
 def tick(network, town, walkers, slowed):
     """Lets each walker go, and sets what each street counts then. Gives the streets that are slowed now."""
-    busy = collections.Counter(walker.step(network) for walker in walkers if not walker.has_arrived())
+    went = [walker.step(network) for walker in walkers if not walker.has_arrived()]
+    busy = collections.Counter(street for street in went if street is not None)
     for u, v in sorted(set(busy) | slowed):
         network.edge(u, v, town.streets[u, v] + SLOWER * busy[u, v])
     return set(busy)
@@ -53,6 +57,8 @@ def main():
     parser.add_argument("--svg")
     given = parser.parse_args()
     town = towns.Town(given.town)
+    if len(town.places) < 4:
+        raise towns.Unread(f"{given.town} has fewer than four lines '# place V X Y', between which walkers go")
     walkers, slowed, number = walkers_of(town, given.walkers), set(), 0
     with apsp.Network(town.crossings) as network:
         town.enter(network)
@@ -64,6 +70,9 @@ def main():
             stats = network.stats()
             print(f"{number:>4}  {walking:>7}  {len(slowed):>12}  {stats.updates:>7}  {stats.paths:>10}  {stats.formed:>6}"
                   f"  {stats.removed:>7}")
+    stuck = sum(walker.stuck for walker in walkers)
+    if stuck:
+        print(f"{stuck} of {len(walkers)} walkers found no way to their goal")
     if given.svg:
         draw(town, walkers, given.svg)
 

@@ -8,23 +8,68 @@ sys.path.insert(0, os.path.join(os.path.dirname(HERE), "clients", "python"))
 MARGIN = 40
 
 
+QUESTIONS = ("dist", "row", "path", "stats", "age", "cert")
+
+
+class Unread(SystemExit):
+    """A town that cannot be read, or drawn: ends the example, which says why."""
+
+    def __init__(self, why):
+        super().__init__(f"{os.path.basename(sys.argv[0])}: {why}")
+
+
 class Town:
-    """Crossings with their places in metres, and streets with their lengths, in both directions."""
+    """Crossings with their places in metres, and streets with their lengths, one for each direction."""
 
     def __init__(self, file):
-        """Reads the lines `vertices N`, `star V out U:W ..` and `# place V X Y` of a script."""
+        """Reads a script: its updates, and the places of crossings in lines `# place V X Y`. Its questions are passed over."""
         self.places, self.streets, self.crossings = {}, {}, 0
-        with open(file, encoding="ascii") as script:
-            for words in map(str.split, script):
-                if words[:2] == ["#", "place"]:
-                    self.places[int(words[2])] = (int(words[3]), int(words[4]))
-                elif words[:1] == ["vertices"]:
-                    self.crossings = int(words[1])
-                elif words[:1] == ["star"] and "out" in words:
-                    end = words.index("in") if "in" in words else len(words)
-                    for item in words[words.index("out") + 1:end]:
-                        u, w = item.split(":")
-                        self.streets[int(words[1]), int(u)] = int(w)
+        try:
+            with open(file, encoding="ascii") as script:
+                lines = script.readlines()
+        except (OSError, UnicodeDecodeError) as fault:
+            raise Unread(f"{file} cannot be read: {fault}") from None
+        for number, line in enumerate(lines, 1):
+            try:
+                self.take(line.split())
+            except (ValueError, IndexError, KeyError):
+                raise Unread(f"line {number} of {file} is not understood: {line.strip()[:60]}") from None
+        if not self.crossings:
+            raise Unread(f"{file} has no line 'vertices N'")
+
+    def take(self, words):
+        """Takes the words of a line: as the program would, but for blocks."""
+        if words[:2] == ["#", "place"]:
+            self.places[int(words[2])] = (int(words[3]), int(words[4]))
+        elif not words or words[0].startswith("#") or words[0] in QUESTIONS:
+            return
+        elif words[0] == "vertices":
+            self.crossings = int(words[1])
+        elif words[0] == "star":
+            self.replace(int(words[1]), words[2:])
+        elif words[0] == "edge":
+            self.streets[int(words[1]), int(words[2])] = int(words[3])
+        elif words[0] == "cut":
+            self.streets.pop((int(words[1]), int(words[2])), None)
+        else:
+            raise ValueError(words[0])
+
+    def replace(self, v, words):
+        """Puts the streets of a star in place of all at its crossing."""
+        self.streets = {ends: w for ends, w in self.streets.items() if v not in ends}
+        group = None
+        for word in words:
+            if word in ("out", "in"):
+                group = word
+                continue
+            u, w = map(int, word.split(":"))
+            self.streets[{"out": (v, u), "in": (u, v)}[group]] = w
+
+    def crossing(self, v):
+        """The number of a crossing that there is."""
+        if not 0 <= v < self.crossings:
+            raise Unread(f"{v} is no crossing: there are 0 to {self.crossings - 1}")
+        return v
 
     def enter(self, network):
         """Puts all streets into a network without edges, a star for each crossing."""
@@ -38,9 +83,11 @@ class Picture:
 
     def __init__(self, town):
         self.places, self.strokes = town.places, []
-        for u, v in sorted(town.streets):
-            if u < v:
-                self.line([u, v], "#c9c9c9", 5)
+        missing = sorted({v for ends in town.streets for v in ends} - set(town.places))
+        if missing:
+            raise Unread(f"there is no picture: the town has no line '# place {missing[0]} X Y'")
+        for u, v in sorted({(min(ends), max(ends)) for ends in town.streets}):
+            self.line([u, v], "#c9c9c9", 5)
 
     def at(self, v, aside=0):
         x, y = self.places[v]

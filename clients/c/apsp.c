@@ -1,30 +1,37 @@
+#ifndef _GNU_SOURCE
 #define _GNU_SOURCE
+#endif
 #include "apsp.h"
 
 #include <errno.h>
 #include <fcntl.h>
 #include <inttypes.h>
-#include <signal.h>
 #include <stdarg.h>
 #include <stdio.h>
 #include <stdlib.h>
 #include <string.h>
+#include <sys/socket.h>
 #include <sys/wait.h>
-#include <time.h>
 #include <unistd.h>
 
-/* Room for each line and each reply: at most so many items "4294967295:4294967295 " in each of two groups. */
-enum { ROOM = 2 * APSP_MOST_VERTICES * 23 + 64, MOST_INPUT = 16777216 };
+/* Room for each line and each reply: at most so many items "4294967295:4294967295 " in each of two groups. At most so many
+ * edges are sent before their replies are read, so that refusals always find room in a pipe. */
+enum { ROOM = 2 * APSP_MOST_VERTICES * 23 + 64, MOST_INPUT = 16777216, AT_ONCE = 256 };
 
 struct apsp {
-    pid_t child;
-    int to;
-    FILE *from;
+    pid_t child, owner;
+    int to, from;
     uint32_t vertices;
+    /* Whether the latest exchange came to its end: else the network has ended, so that no later call takes its reply. */
+    int whole;
     size_t sent;
+    uint64_t lines;
     size_t length;
     char line[ROOM];
     char reply[ROOM];
+    /* What was read and not taken yet. */
+    size_t begun, end;
+    char read[4096];
 };
 
 static const char *const NAMES[] = {"",      "NoVertices", "VerticesTwice", "Command", "Shape",   "Number",
@@ -34,38 +41,34 @@ const char *apsp_name(int code) {
     return code > 0 && (size_t)code < sizeof NAMES / sizeof *NAMES ? NAMES[code] : "";
 }
 
-/* Writes without the signal that a pipe raises whose other side is closed. */
-static ssize_t write_quietly(int to, const char *bytes, size_t count) {
-    sigset_t broken, before;
-    sigemptyset(&broken);
-    sigaddset(&broken, SIGPIPE);
-    pthread_sigmask(SIG_BLOCK, &broken, &before);
-    ssize_t written = write(to, bytes, count);
-    int error = errno;
-    if (written < 0 && error == EPIPE && !sigismember(&before, SIGPIPE)) {
-        const struct timespec at_once = {0, 0};
-        sigtimedwait(&broken, NULL, &at_once);
-    }
-    pthread_sigmask(SIG_SETMASK, &before, NULL);
-    errno = error;
-    return written;
+static int ended(apsp *network) {
+    network->whole = 0;
+    return APSP_ENDED;
 }
 
+/* Sends what the line has. A signal that comes in between changes nothing. */
 static int send_line(apsp *network) {
     const char *rest = network->line;
     size_t left = network->length;
     network->length = 0;
+    if (!network->whole || network->owner != getpid()) {
+        return APSP_ENDED;
+    }
     if (left > MOST_INPUT - network->sent) {
         return APSP_ENDED;
     }
+    network->whole = 0;
     network->sent += left;
     while (left > 0) {
-        ssize_t written = write_quietly(network->to, rest, left);
+        ssize_t written = send(network->to, rest, left, MSG_NOSIGNAL);
         if (written < 0 && errno == EINTR) {
             continue;
         }
         if (written <= 0) {
             return APSP_ENDED;
+        }
+        for (ssize_t i = 0; i < written; i++) {
+            network->lines += rest[i] == '\n';
         }
         rest += written;
         left -= (size_t)written;
@@ -73,32 +76,100 @@ static int send_line(apsp *network) {
     return APSP_OK;
 }
 
-static int read_reply(apsp *network) {
-    if (!fgets(network->reply, ROOM, network->from) || !strchr(network->reply, '\n')) {
-        return APSP_ENDED;
+/* Reads a line into `reply`. */
+static int read_line(apsp *network) {
+    size_t length = 0;
+    for (;;) {
+        while (network->begun < network->end) {
+            char byte = network->read[network->begun++];
+            if (length + 2 > ROOM) {
+                return ended(network);
+            }
+            network->reply[length++] = byte;
+            if (byte == '\n') {
+                network->reply[length] = 0;
+                return APSP_OK;
+            }
+        }
+        ssize_t taken = read(network->from, network->read, sizeof network->read);
+        if (taken < 0 && errno == EINTR) {
+            continue;
+        }
+        if (taken <= 0) {
+            return ended(network);
+        }
+        network->begun = 0;
+        network->end = (size_t)taken;
     }
+}
+
+/* The code of the refusal that the reply is, and the number of its line; 0 where it is none. */
+static int refusal(const apsp *network, uint64_t *line) {
     int code;
-    return sscanf(network->reply, "line %*u error %d", &code) == 1 ? code : APSP_OK;
+    return sscanf(network->reply, "line %" SCNu64 " error %d", line, &code) == 2 && code > 0 ? code : APSP_OK;
 }
 
-/* Asks what the line has, and leaves the reply. */
+/* Asks what the line has, and leaves the reply, which has to begin as the question does. */
 static int ask(apsp *network) {
+    char front[64];
+    size_t length = 0;
+    uint64_t line;
+    while (length < sizeof front - 1 && network->line[length] && network->line[length] != '\n') {
+        front[length] = network->line[length];
+        length++;
+    }
     int end = send_line(network);
-    return end ? end : read_reply(network);
+    if (end || (end = read_line(network))) {
+        return end;
+    }
+    int code = refusal(network, &line);
+    int whole_word = length == sizeof front - 1 || network->reply[length] == ' ';
+    int fits = code ? line == network->lines : strncmp(network->reply, front, length) == 0 && whole_word;
+    if (strncmp(front, "cert", 5) == 0 && !code) {
+        fits = strncmp(network->reply, "apsp certificate", 16) == 0;
+    }
+    if (!fits) {
+        return ended(network);
+    }
+    network->whole = 1;
+    return code;
 }
 
-/* An accepted update has no reply, so a question goes behind it. */
-static int update(apsp *network) {
+/* Sends updates. An accepted update has no reply, so a question goes behind them. The answer is the code of the first that
+ * was refused, whose place among these lines it leaves. */
+static int update_many(apsp *network, uint64_t *refused) {
+    uint64_t before = network->lines, line;
+    int first = APSP_OK;
     network->length += (size_t)snprintf(network->line + network->length, ROOM - network->length, "dist 0 0\n");
     int end = send_line(network);
     if (end) {
         return end;
     }
-    int refused = read_reply(network);
-    if (refused > 0 && read_reply(network) == APSP_ENDED) {
-        return APSP_ENDED;
+    for (;;) {
+        if ((end = read_line(network))) {
+            return end;
+        }
+        int code = refusal(network, &line);
+        if (!code && strcmp(network->reply, "dist 0 0 0\n") != 0) {
+            return ended(network);
+        }
+        if (code && (line <= before || line > network->lines)) {
+            return ended(network);
+        }
+        if (!code || line == network->lines) {
+            network->whole = 1;
+            return first;
+        }
+        if (!first) {
+            first = code;
+            *refused = line - before - 1;
+        }
     }
-    return refused;
+}
+
+static int update(apsp *network) {
+    uint64_t refused;
+    return update_many(network, &refused);
 }
 
 __attribute__((format(printf, 2, 3))) static void put(apsp *network, const char *format, ...) {
@@ -134,10 +205,19 @@ static void in_child(const char *program, int smooth, int to, int from) {
     _exit(127);
 }
 
+static void shut(apsp *network) {
+    /* The program sees its end although a forked child may have a copy of the socket. */
+    if (network->owner == getpid()) {
+        shutdown(network->to, SHUT_RDWR);
+    }
+    close(network->to);
+    close(network->from);
+}
+
 apsp *apsp_open(const char *program, uint32_t n, int smooth) {
     int to[2], from[2];
     apsp *network = calloc(1, sizeof *network);
-    if (!network || pipe2(to, O_CLOEXEC)) {
+    if (!network || socketpair(AF_UNIX, SOCK_STREAM | SOCK_CLOEXEC, 0, to)) {
         free(network);
         return NULL;
     }
@@ -148,19 +228,18 @@ apsp *apsp_open(const char *program, uint32_t n, int smooth) {
         return NULL;
     }
     network->vertices = n;
+    network->whole = 1;
+    network->owner = getpid();
     network->to = to[1];
+    network->from = from[0];
     network->child = fork();
     if (network->child == 0) {
         in_child(program, smooth, to[0], from[1]);
     }
     close(to[0]);
     close(from[1]);
-    network->from = fdopen(from[0], "r");
     put(network, "vertices %" PRIu32 "\n", n);
-    if (network->child < 0 || !network->from || update(network)) {
-        if (!network->from) {
-            close(from[0]);
-        }
+    if (network->child < 0 || update(network)) {
         apsp_close(network);
         return NULL;
     }
@@ -169,11 +248,11 @@ apsp *apsp_open(const char *program, uint32_t n, int smooth) {
 
 int apsp_close(apsp *network) {
     int status = 0, ended = -1;
-    close(network->to);
-    if (network->from) {
-        fclose(network->from);
+    if (!network) {
+        return -1;
     }
-    if (network->child > 0) {
+    shut(network);
+    if (network->child > 0 && network->owner == getpid()) {
         while ((ended = waitpid(network->child, &status, 0)) < 0 && errno == EINTR) {
         }
     }
@@ -203,6 +282,29 @@ int apsp_star(apsp *network, uint32_t v, const struct apsp_item *out, size_t out
 int apsp_edge(apsp *network, uint32_t u, uint32_t v, uint32_t w) {
     put(network, "edge %" PRIu32 " %" PRIu32 " %" PRIu32 "\n", u, v, w);
     return update(network);
+}
+
+int apsp_set_edges(apsp *network, const struct apsp_edge *edges, size_t count, size_t *refused) {
+    int first = APSP_OK;
+    for (size_t begun = 0; begun < count;) {
+        size_t end = count - begun < AT_ONCE ? count : begun + AT_ONCE;
+        for (size_t i = begun; i < end; i++) {
+            put(network, "edge %" PRIu32 " %" PRIu32 " %" PRIu32 "\n", edges[i].from, edges[i].to, edges[i].weight);
+        }
+        uint64_t place = 0;
+        int code = update_many(network, &place);
+        if (code == APSP_ENDED) {
+            return code;
+        }
+        if (code && !first) {
+            first = code;
+            if (refused) {
+                *refused = begun + (size_t)place;
+            }
+        }
+        begun = end;
+    }
+    return first;
 }
 
 int apsp_cut(apsp *network, uint32_t u, uint32_t v) {
@@ -285,9 +387,11 @@ int apsp_certificate(apsp *network, char **text) {
     while (!end) {
         fputs(network->reply, all);
         if (strcmp(network->reply, "end\n") == 0) {
+            network->whole = 1;
             break;
         }
-        end = read_reply(network);
+        network->whole = 0;
+        end = read_line(network);
     }
     if (fclose(all) || end) {
         free(*text);

@@ -1,9 +1,14 @@
 /* Tests of the client: test_apsp PROGRAM. Prints the tests that fail, and ends with their number. */
+#define _GNU_SOURCE
 #include "apsp.h"
 
+#include <signal.h>
 #include <stdio.h>
 #include <stdlib.h>
 #include <string.h>
+#include <sys/time.h>
+#include <sys/wait.h>
+#include <unistd.h>
 
 static int failed;
 
@@ -44,18 +49,15 @@ static void two_stars(const char *program) {
 
     EXPECT(strcmp(apsp_name(apsp_dist(network, 0, 3, &distance)), "Vertex") == 0);
     EXPECT(strcmp(apsp_name(apsp_edge(network, 1, 1, 5)), "SelfEdge") == 0);
-    EXPECT(strcmp(apsp_name(apsp_edge(network, 1, 2, 0)), "Weight") == 0);
     EXPECT(strcmp(apsp_name(apsp_star(network, 0, (struct apsp_item[]){{1, 1}, {1, 2}}, 2, NULL, 0)), "Repeat") == 0);
+    EXPECT(apsp_edge(network, 2, 1, 0) == APSP_OK && apsp_dist(network, 2, 1, &distance) == APSP_OK && distance == 0);
+    EXPECT(apsp_cut(network, 2, 1) == APSP_OK);
     EXPECT(strcmp(apsp_name(apsp_age(network, NULL, 0, &birth)), "Shape") == 0);
     EXPECT(apsp_dist(network, 0, 1, &distance) == APSP_OK && distance == 4);
 
     char *text = NULL;
-    int end = apsp_certificate(network, &text);
-    if (end == 3) {
-        puts("certificates are skipped: this program has no command cert");
-    } else {
-        EXPECT(end == APSP_OK && text && strncmp(text, "apsp certificate 1\nnumber 3\n", 28) == 0);
-    }
+    EXPECT(apsp_certificate(network, &text) == APSP_OK && text);
+    EXPECT(text && strncmp(text, "apsp certificate ", 17) == 0 && strstr(text, "\nnumber 5\n"));
     free(text);
     EXPECT(apsp_close(network) == 1);
 }
@@ -72,7 +74,7 @@ static void smoothing(const char *program) {
     EXPECT(apsp_close(network) == 0);
 }
 
-/* A ring of 128 vertices whose edges are set one after another, in both directions. */
+/* A ring of all vertices that there may be whose edges are set one after another, in both directions. */
 static void ring(const char *program) {
     apsp *network = apsp_open(program, APSP_MOST_VERTICES, 0);
     EXPECT(network != NULL);
@@ -90,8 +92,73 @@ static void ring(const char *program) {
         EXPECT(apsp_edge(network, u, (u + 1) % APSP_MOST_VERTICES, 1) == APSP_OK);
         EXPECT(apsp_edge(network, (u + 1) % APSP_MOST_VERTICES, u, 1) == APSP_OK);
     }
-    EXPECT(apsp_row(network, 5, row) == APSP_OK && row[0] == 5 && row[69] == 64 && row[127] == 6);
+    EXPECT(apsp_row(network, 5, row) == APSP_OK && row[0] == 5 && row[69] == 64 && row[APSP_MOST_VERTICES - 1] == 6);
     EXPECT(apsp_close(network) == 0);
+}
+
+static void many_edges(const char *program) {
+    enum { COUNT = 1000 };
+    apsp *network = apsp_open(program, 40, 0);
+    struct apsp_edge edges[COUNT];
+    size_t refused = 0;
+    uint64_t distance;
+    struct apsp_stats stats;
+    for (uint32_t i = 0; i < COUNT; i++) {
+        edges[i] = (struct apsp_edge){i % 39, i % 39 + 1, i};
+    }
+    EXPECT(apsp_set_edges(network, edges, COUNT, NULL) == APSP_OK);
+    EXPECT(apsp_dist(network, 0, 1, &distance) == APSP_OK && distance == 975);
+    edges[700].to = edges[700].from;
+    edges[900].to = 40;
+    EXPECT(strcmp(apsp_name(apsp_set_edges(network, edges, COUNT, &refused)), "SelfEdge") == 0 && refused == 700);
+    EXPECT(apsp_stats(network, &stats) == APSP_OK && stats.updates == 2 * COUNT - 2);
+    EXPECT(apsp_close(network) == 1);
+}
+
+static volatile sig_atomic_t rung;
+
+static void ring_once(int number) {
+    (void)number;
+    rung++;
+}
+
+/* Signals whose handlers return come in between reads and writes, and change no answer. */
+static void signals(const char *program) {
+    apsp *network = apsp_open(program, 3, 0);
+    struct sigaction action = {.sa_handler = ring_once}, before;
+    const struct itimerval often = {{0, 50}, {0, 50}}, never = {{0, 0}, {0, 0}};
+    uint64_t distance = 0;
+    int wrong = 0;
+    EXPECT(apsp_edge(network, 0, 1, 5) == APSP_OK && apsp_edge(network, 1, 2, 6) == APSP_OK);
+    sigaction(SIGALRM, &action, &before);
+    setitimer(ITIMER_REAL, &often, NULL);
+    for (int i = 0; i < 5000; i++) {
+        wrong += apsp_dist(network, 0, 1, &distance) != APSP_OK || distance != 5;
+        wrong += apsp_dist(network, 1, 2, &distance) != APSP_OK || distance != 6;
+    }
+    setitimer(ITIMER_REAL, &never, NULL);
+    sigaction(SIGALRM, &before, NULL);
+    EXPECT(wrong == 0 && rung > 0);
+    EXPECT(apsp_close(network) == 0);
+}
+
+/* A forked child gets no answer, and does not keep the program from its end. */
+static void forks(const char *program) {
+    apsp *network = apsp_open(program, 3, 0);
+    uint64_t distance;
+    EXPECT(apsp_edge(network, 0, 1, 5) == APSP_OK);
+    pid_t child = fork();
+    if (child == 0) {
+        int end = apsp_dist(network, 0, 1, &distance);
+        pause();
+        _exit(end != APSP_ENDED);
+    }
+    EXPECT(apsp_dist(network, 0, 1, &distance) == APSP_OK && distance == 5);
+    alarm(10);
+    EXPECT(apsp_close(network) == 0);
+    alarm(0);
+    kill(child, SIGKILL);
+    waitpid(child, NULL, 0);
 }
 
 int main(int count, char **words) {
@@ -102,7 +169,11 @@ int main(int count, char **words) {
     two_stars(words[1]);
     smoothing(words[1]);
     ring(words[1]);
-    EXPECT(apsp_open(words[1], 129, 0) == NULL);
+    many_edges(words[1]);
+    signals(words[1]);
+    forks(words[1]);
+    EXPECT(apsp_close(NULL) == -1);
+    EXPECT(apsp_open(words[1], 513, 0) == NULL);
     EXPECT(apsp_open("/nonexistent", 3, 0) == NULL);
     return failed > 100 ? 100 : failed;
 }

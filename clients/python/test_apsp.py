@@ -1,9 +1,14 @@
 """Tests of the client over the built program: python3 clients/python/test_apsp.py"""
 
+import gc
 import heapq
 import os
+import pickle
 import random
+import signal
 import sys
+import threading
+import time
 import unittest
 
 sys.path.insert(0, os.path.dirname(os.path.abspath(__file__)))
@@ -58,7 +63,7 @@ class Answers(unittest.TestCase):
                     del edges[u][v]
                     network.cut(u, v)
                 else:
-                    edges[u][v] = chance.randint(1, 1000)
+                    edges[u][v] = chance.randint(0, 1000)
                     network.edge(u, v, edges[u][v])
                 if number % 50 == 49:
                     x = chance.randrange(n)
@@ -73,7 +78,7 @@ class Refusals(unittest.TestCase):
             for kind, code, place, call in [
                 (apsp.Vertex, 6, 3, lambda: network.dist(0, 3)),
                 (apsp.SelfEdge, 7, 3, lambda: network.edge(1, 1, 5)),
-                (apsp.Weight, 9, 4, lambda: network.edge(0, 1, 0)),
+                (apsp.Weight, 9, 4, lambda: network.edge(0, 1, 4294967296)),
                 (apsp.Weight, 9, 4, lambda: network.star(0, out={1: 4294967296})),
                 (apsp.Number, 5, 2, lambda: network.row(-1)),
                 (apsp.Shape, 4, 2, lambda: network.age([])),
@@ -89,7 +94,7 @@ class Refusals(unittest.TestCase):
             self.assertEqual(network.close(), 1)
 
     def test_numbers_of_vertices(self):
-        for n in (0, 129):
+        for n in (0, 513):
             with self.assertRaises(apsp.Vertex):
                 apsp.Network(n)
 
@@ -104,11 +109,12 @@ class Refusals(unittest.TestCase):
 class Ends(unittest.TestCase):
     def test_a_program_that_was_killed(self):
         network = apsp.Network(2)
-        network._child.kill()
-        network._child.wait()
+        network._program.child.kill()
+        network._program.child.wait()
         with self.assertRaises(apsp.Ended) as caught:
             network.dist(0, 1)
         self.assertEqual(caught.exception.status, -9)
+        self.assertEqual(network.close(), -9)
 
     def test_a_closed_network(self):
         network = apsp.Network(2)
@@ -124,22 +130,278 @@ class Ends(unittest.TestCase):
             self.assertIsNone(network.dist(0, 1))
 
 
+class Whole(unittest.TestCase):
+    """Whole networks: named vertices, many edges at once, what is read back."""
+
+    def test_names(self):
+        edges = [("b", "c", 3), ("a", "b", 4), ("a", "c", 9), ("c", "a", 0)]
+        with apsp.Network.from_edges(edges, names=["a", "b", "c", "d"]) as network:
+            self.assertEqual(network.path("a", "c"), apsp.Path(7, ["a", "b", "c"]))
+            self.assertEqual(network.edges(), sorted(edges))
+            self.assertEqual((len(network), list(network), "d" in network, 0 in network), (4, ["a", "b", "c", "d"], True, False))
+            self.assertEqual(repr(network), "<Network of 4 vertices and 4 edges>")
+            self.assertEqual(network.next_hops()["a", "c"], "b")
+            self.assertIsNone(network.dist("a", "d"))
+            with self.assertRaises(KeyError):
+                network.dist("a", "e")
+        with self.assertRaises(apsp.Repeat):
+            apsp.Network.from_edges([("a", "b", 4), ("a", "b", 5)])
+
+    def test_drawn_networks(self):
+        chance = random.Random(7)
+        for n in (2, 9, 40):
+            edges = [{} for _ in range(n)]
+            for _ in range(4 * n):
+                u, v = chance.sample(range(n), 2)
+                edges[u][v] = chance.randint(0, 9)
+            listed = [(u, v, w) for u in range(n) for v, w in edges[u].items()]
+            with apsp.Network.from_edges(listed, names=range(n)) as network:
+                wanted = [distances(n, edges, x) for x in range(n)]
+                self.assertEqual([network.row(x) for x in range(n)], wanted)
+                rows = [[None if d == float("inf") else d for d in row] for row in network.matrix()]
+                self.assertEqual(rows, wanted)
+                self.assertEqual(network.edges(), sorted(listed))
+            with apsp.Network(n) as network:
+                network.set_edges(listed)
+                self.assertEqual(network.row(0), wanted[0])
+                self.assertEqual(network.stats().updates, len(listed))
+                with self.assertRaises(apsp.Weight):
+                    network.set_edges([(0, 1, 5), (1, 0, 1 << 32), (1, 0, 7)])
+                self.assertEqual(network.stats().updates, len(listed) + 2)
+                self.assertIn((1, 0, 7), network.edges())
+
+    def test_without(self):
+        with apsp.Network.from_edges([(0, 1, 4), (1, 2, 3), (0, 2, 9), (2, 0, 1)]) as network:
+            before = network.edges()
+            with network.without([(1, 2), (0, 1)]):
+                self.assertEqual(network.path(0, 2), apsp.Path(9, [0, 2]))
+            with self.assertRaises(ZeroDivisionError):
+                with network.without([(1, 2)]):
+                    network.edge(1, 0, 1)
+                    1 / 0
+            self.assertEqual(network.edges(), before)
+            self.assertEqual(network.dist(0, 2), 7)
+
+    def test_networkx(self):
+        try:
+            import networkx
+        except ImportError:
+            self.skipTest("networkx is not there")
+        graph = networkx.Graph()
+        graph.add_edge("a", "b", weight=0.5)
+        graph.add_edge("b", "c")
+        graph.add_node("d")
+        with self.assertRaises(ValueError):
+            apsp.Network.from_networkx(graph)
+        with apsp.Network.from_networkx(graph, scale=2) as network:
+            self.assertEqual((network.dist("a", "c"), network.dist("c", "a"), len(network)), (3, 3, 4))
+            again = network.to_networkx()
+            self.assertEqual(sorted(again.edges(data="weight")), network.edges())
+            self.assertEqual(set(again), {"a", "b", "c", "d"})
+
+    def test_a_session_more(self):
+        chance, n = random.Random(3), 30
+        edges = [{} for _ in range(n)]
+        most, apsp.MOST_INPUT = apsp.MOST_INPUT, 5000
+        try:
+            with apsp.Network(n, renew=True) as network:
+                for _ in range(400):
+                    u, v = chance.sample(range(n), 2)
+                    if v in edges[u]:
+                        del edges[u][v]
+                        network.cut(u, v)
+                    else:
+                        edges[u][v] = chance.randint(0, 9)
+                        network.edge(u, v, edges[u][v])
+                self.assertLess(network.stats().updates, 400)
+                for x in range(n):
+                    self.assertEqual(network.row(x), distances(n, edges, x))
+        finally:
+            apsp.MOST_INPUT = most
+
+
+class Blocks(unittest.TestCase):
+    def test_a_block(self):
+        with apsp.Network(3, live=True) as network:
+            network.edge(0, 1, 5)
+            with network.block() as block:
+                block.edge(1, 2, 6)
+                self.assertEqual((block.ask(0, 2, since=1), block.ask(2, 0)), (0, 1))
+            self.assertEqual(block.answers[0], apsp.Answer(2, apsp.Path(11, [0, 1, 2])))
+            self.assertIsNone(block.answers[1].path)
+            self.assertIn(block.answers[1].number, (1, 2))
+            with self.assertRaises(apsp.Since):
+                with network.block() as block:
+                    block.cut(0, 1)
+                    block.ask(0, 1, since=2)
+            self.assertEqual(network.edges(), [(1, 2, 6)])
+            with self.assertRaises(ZeroDivisionError):
+                with network.block() as block:
+                    block.edge(0, 1, 1 // 0)
+            self.assertIsNone(network.dist(0, 2))
+        with apsp.Network(2) as network:
+            with self.assertRaises(apsp.NeedsLive):
+                with network.block():
+                    pass
+            self.assertIsNone(network.dist(0, 1))
+
+    def test_many_refusals_at_once(self):
+        with apsp.Network(2, live=True) as network:
+            with self.assertRaises(apsp.Vertex):
+                with network.block() as block:
+                    for _ in range(20000):
+                        block.edge(0, 7, 1)
+            self.assertIsNone(network.dist(0, 1))
+
+
+class Misuse(unittest.TestCase):
+    """An interrupt, a thread, a fork: never a wrong answer, and never a hang."""
+
+    def test_interrupts(self):
+        class Timer(Exception):
+            pass
+
+        def ring(*_):
+            raise Timer
+
+        def disarm():
+            signal.signal(signal.SIGALRM, signal.SIG_IGN)
+            signal.setitimer(signal.ITIMER_REAL, 0)
+
+        chance, network, answers, ends = random.Random(1), None, 0, 0
+        end = time.monotonic() + 2
+        while time.monotonic() < end:
+            if network is None:
+                network, weight = apsp.Network(3), 5
+                network.edge(0, 1, 5)
+                network.edge(1, 2, 6)
+            signal.signal(signal.SIGALRM, ring)
+            try:
+                signal.setitimer(signal.ITIMER_REAL, chance.random() * 0.0005 + 0.00001)
+                for _ in range(40):
+                    self.assertEqual(network.dist(0, 1), weight)
+                    network.edge(0, 1, weight)
+                disarm()
+            except Timer:
+                pass
+            except apsp.Ended:
+                pass
+            disarm()
+            try:
+                self.assertEqual(network.dist(1, 2), 6)
+                self.assertEqual(network.edges(), [(0, 1, 5), (1, 2, 6)])
+                answers += 1
+            except apsp.Ended:
+                ends += 1
+                network.close()
+                network = None
+        if network:
+            network.close()
+        self.assertGreater(ends, 5)
+
+    def test_a_call_inside_of_a_call(self):
+        network = apsp.Network(3)
+        network.edge(0, 1, 5)
+        inside = []
+
+        def ring(*_):
+            try:
+                inside.append(network.dist(1, 0))
+            except apsp.Ended:
+                inside.append("ended")
+
+        signal.signal(signal.SIGALRM, ring)
+        try:
+            signal.setitimer(signal.ITIMER_REAL, 0.0003, 0.0003)
+            for _ in range(5000):
+                self.assertEqual(network.dist(0, 1), 5)
+        except apsp.Ended:
+            pass
+        finally:
+            signal.signal(signal.SIGALRM, signal.SIG_IGN)
+            signal.setitimer(signal.ITIMER_REAL, 0)
+            network.close()
+        self.assertLessEqual(set(inside), {None, "ended"})
+
+    def test_threads(self):
+        n, wrong = 50, []
+        with apsp.Network(n) as network:
+            network.set_edges([(x, x + 1, x) for x in range(n - 1)])
+
+            def asks(seed):
+                chance = random.Random(seed)
+                for _ in range(200):
+                    x = chance.randrange(n - 1)
+                    if network.dist(x, x + 1) != x or network.path(x, x + 1) != apsp.Path(x, [x, x + 1]):
+                        wrong.append(x)
+
+            threads = [threading.Thread(target=asks, args=(seed,)) for seed in range(8)]
+            for thread in threads:
+                thread.start()
+            for thread in threads:
+                thread.join()
+        self.assertEqual(wrong, [])
+
+    def test_a_fork(self):
+        with apsp.Network(2) as network:
+            network.edge(0, 1, 5)
+            child = os.fork()
+            if child == 0:
+                try:
+                    network.dist(0, 1)
+                except apsp.Ended:
+                    os._exit(7)
+                os._exit(1)
+            self.assertEqual(network.dist(0, 1), 5)
+            self.assertEqual(os.waitpid(child, 0)[1] >> 8, 7)
+            child = os.fork()
+            if child == 0:
+                time.sleep(5)
+                os._exit(0)
+            begun = time.monotonic()
+            self.assertEqual(network.close(), 0)
+            self.assertLess(time.monotonic() - begun, 3)
+            os.kill(child, signal.SIGKILL)
+            os.waitpid(child, 0)
+
+    def test_a_forgotten_network(self):
+        network = apsp.Network(2)
+        child = network._program.child.pid
+        del network
+        gc.collect()
+        with self.assertRaises(ProcessLookupError):
+            os.kill(child, 0)
+
+    def test_a_group_of_its_own(self):
+        with apsp.Network(2) as network:
+            self.assertNotEqual(os.getpgid(network._program.child.pid), os.getpgid(0))
+
+    def test_pickles(self):
+        for raised in (apsp.Vertex(6, 3, "dist 0 5"), apsp.Ended(5), apsp.Ended(None, "why"), apsp.InputFull("full")):
+            again = pickle.loads(pickle.dumps(raised))
+            self.assertEqual((type(again), str(again), again.__dict__), (type(raised), str(raised), raised.__dict__))
+
+    def test_a_reply_that_does_not_belong(self):
+        network = apsp.Network(3)
+        os.write(network._program.to, b"dist 0 0\n")
+        time.sleep(0.2)
+        with self.assertRaises(apsp.Ended):
+            network.dist(0, 1)
+        with self.assertRaises(apsp.Ended):
+            network.dist(0, 1)
+        network.close()
+
+
 class Certificates(unittest.TestCase):
     def test_a_certificate(self):
         with apsp.Network(3) as network:
             network.star(0, out={1: 4, 2: 9})
             network.star(1, out={2: 3}, into={0: 4})
-            try:
-                text = network.certificate()
-            except apsp.Command:
-                self.skipTest("this program has no command cert")
+            text = network.certificate()
             self.assertEqual(text, b"apsp certificate 1\nnumber 2\nvertices 3\nedges 3\n0 1 4\n0 2 9\n1 2 3\n"
                                    b"pairs 3\n0 1 4 1 1\n0 2 7 2 1\n1 2 3 1 2\nend\n")
             self.assertEqual(network.dist(0, 2), 7)
-        try:
-            verdict = apsp.check(text)
-        except apsp.Ended:
-            self.skipTest("this program has no mode check")
+        verdict = apsp.check(text)
         self.assertEqual(verdict, "certificate yes 2")
 
 
