@@ -12,13 +12,15 @@ RUNS = 3
 NAMES = ["dense16", "dense64", "dense128", "road16", "road60", "road128", "sparse64", "sparse128"]
 
 
-def recomputation(folder):
+def recomputation(folder, n):
+    """Builds recompute.c for n vertices."""
     compiler = os.environ.get("CC") or shutil.which("cc") or shutil.which("gcc") or shutil.which("clang")
     if not compiler:
         sys.exit("bench: there is no C compiler, which the recomputation needs")
     built = os.path.join(folder, "recompute")
     source = os.path.join(run.TOP, "bench", "recompute.c")
-    subprocess.run([compiler, "-O3", "-march=native", "-std=c11", "-o", built, source], check=True)
+    words = ["-O3", "-march=native", "-std=c11", f"-DMOST={(n + 7) // 8 * 8}"]
+    subprocess.run([compiler, *words, "-o", built, source], check=True)
     return built
 
 
@@ -34,14 +36,14 @@ def least(text, updates, command):
 
 
 def main():
-    names = sys.argv[1:] or NAMES
+    names = run.named(__doc__).names or NAMES
     run.stop_unless_ready(names)
     print("| script | this program | with `--smooth` | Floyd-Warshall | Dijkstra | MB, this program | MB, recomputing |")
     print("|---|---|---|---|---|---|---|")
     with tempfile.TemporaryDirectory() as folder:
-        anew = recomputation(folder)
         for name in names:
-            kind, n = run.SCRIPTS.get(name) or run.WORST[name]
+            kind, n = run.SCRIPTS.get(name) or run.NAMED[name]
+            anew = recomputation(folder, n)
             lines, updates = kind(n)
             text = run.text_of(lines)
             commands = [[run.PROGRAM, "run"], [run.PROGRAM, "run", "--smooth"], [anew, "floyd"], [anew, "dijkstra"]]

@@ -1,8 +1,8 @@
 """Times a block of 64 updates without asks and with readers beside it, and prints answers per second. See README.md."""
 
+import argparse
 import random
 import subprocess
-import sys
 import threading
 import time
 
@@ -55,11 +55,13 @@ def timed(n, asks, words):
 
 
 def main():
+    given = argparse.ArgumentParser(description=__doc__, epilog="Other options are the program's, as --workers W and --slots K.")
+    _, options = given.parse_known_args()
     stop_unless_ready([])
     print(f"{'vertices':<10}{'readers':>8}{'asks':>8}{'ms/block':>10}{'answers/s':>12}")
     for n in SIZES:
         for readers, asks in [(0, 0)] + [(readers, ASKS) for readers in READERS]:
-            words = ["--readers", str(max(readers, 1))] + sys.argv[1:]
+            words = ["--readers", str(max(readers, 1))] + options
             seconds = min(timed(n, asks, words) for _ in range(RUNS))
             rate = f"{asks / seconds:>12.0f}" if asks else f"{'':>12}"
             print(f"{n:<10}{readers:>8}{asks:>8}{1000 * seconds:>10.1f}{rate}", flush=True)

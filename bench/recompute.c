@@ -2,14 +2,17 @@
  *
  *     recompute floyd|dijkstra < SCRIPT
  *
- * A walk's key is its weight times 256 plus its number of edges, below 2^48, so doubles hold it exactly, and its order
- * is that of weight, then edges. Among walks of one key the least list is found vertex by vertex. stats counts updates. */
+ * A walk's key is its weight times 1024 plus its number of edges, below 2^52, so doubles hold it exactly, and its order
+ * is that of weight, then edges. MOST, the most vertices, is a multiple of 8 that the compiler is told: the nearer it is
+ * to the script's number, the less is computed for nothing. Among walks of one key the least list is found vertex by vertex. stats counts updates. */
 #include <stdint.h>
 #include <stdio.h>
 #include <stdlib.h>
 #include <string.h>
 
-enum { MOST = 128 };
+#ifndef MOST
+#define MOST 512
+#endif
 static const double NONE = 1e300;
 
 static int n;
@@ -100,13 +103,13 @@ static void dijkstra(void) {
     }
 }
 
-static void set(int u, int v, double weight) { edge[u][v] = weight * 256 + 1; }
+static void set(int u, int v, double weight) { edge[u][v] = weight * 1024 + 1; }
 
 static void put_distance(int x, int y) {
     if (least[x][y] >= NONE) {
         printf(" none");
     } else {
-        printf(" %ld", (long)(least[x][y] / 256));
+        printf(" %ld", (long)(least[x][y] / 1024));
     }
 }
 

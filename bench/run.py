@@ -1,5 +1,6 @@
 """Runs generated scripts through the built program and prints time, kept paths and memory. See README.md."""
 
+import argparse
 import os
 import random
 import subprocess
@@ -9,7 +10,7 @@ import time
 
 TOP = os.path.dirname(os.path.dirname(os.path.abspath(__file__)))
 PROGRAM = os.environ.get("APSP_PROGRAM") or os.path.join(TOP, "crates", "apsp", "out", "apsp")
-GRIDS = {16: (4, 4), 60: (6, 10), 128: (8, 16)}
+GRIDS = {16: (4, 4), 60: (6, 10), 128: (8, 16), 512: (16, 32)}
 CHANGES = 200
 QUESTIONS = 5
 AGAIN = 16
@@ -82,7 +83,8 @@ def complete(n):
 SCRIPTS = {f"{kind.__name__}{n}": (kind, n)
            for kind, sizes in ((dense, (16, 32, 64, 128)), (road, (16, 60, 128)), (sparse, (16, 64, 128)))
            for n in sizes}
-WORST = {f"complete{n}": (complete, n) for n in (16, 32, 64, 128)}
+NAMED = {f"complete{n}": (complete, n) for n in (16, 32, 64, 128)}
+NAMED.update({f"{kind.__name__}512": (kind, 512) for kind in (dense, road, sparse)})
 
 
 def text_of(lines):
@@ -109,23 +111,30 @@ def measured(text, command):
     return seconds, processor, memory, int(line.split()[6])
 
 
+def named(told):
+    """The words of the command: names of scripts."""
+    given = argparse.ArgumentParser(description=told, epilog="APSP_PROGRAM names another program to measure.")
+    given.add_argument("names", nargs="*", metavar="NAME", help=f"one of {' '.join([*SCRIPTS, *NAMED])}; else the usual ones")
+    return given.parse_args()
+
+
 def stop_unless_ready(names):
     """Says what is missing, and ends, where the program is not built, a script has no such name or the system has no /proc."""
     if not os.access(PROGRAM, os.X_OK):
         sys.exit(f"bench: {PROGRAM} is not built: run ./apsp < /dev/null first, or name another program in APSP_PROGRAM")
-    unknown = [name for name in names if name not in SCRIPTS and name not in WORST]
+    unknown = [name for name in names if name not in SCRIPTS and name not in NAMED]
     if unknown:
-        sys.exit(f"bench: there is no script {' '.join(unknown)}; there are {' '.join([*SCRIPTS, *WORST])}")
+        sys.exit(f"bench: there is no script {' '.join(unknown)}; there are {' '.join([*SCRIPTS, *NAMED])}")
     if not os.path.exists("/proc/self/schedstat"):
         sys.exit("bench: this system has no /proc/PID/schedstat, where time and memory are read")
 
 
 def main():
-    names = sys.argv[1:] or list(SCRIPTS)
+    names = named(__doc__).names or list(SCRIPTS)
     stop_unless_ready(names)
     print(f"{'script':<12}{'smooth':<8}{'updates':>8}{'seconds':>9}{'ms/update':>11}{'paths':>9}{'peak MB':>9}")
     for name in names:
-        kind, n = SCRIPTS.get(name) or WORST[name]
+        kind, n = SCRIPTS.get(name) or NAMED[name]
         lines, updates = kind(n)
         text = text_of(lines)
         for words in ([], ["--smooth"]):

@@ -13,7 +13,7 @@ import re
 import subprocess
 import sys
 
-MOST_LINE, MOST_VERTICES, MOST_WEIGHT, MOST_IN_BLOCK = 65536, 128, 4294967295, 65536
+MOST_LINE, MOST_VERTICES, MOST_WEIGHT, MOST_IN_BLOCK = 65536, 512, 4294967295, 65536
 NUMBER = re.compile(rb"0|[1-9][0-9]{0,18}")
 COMMANDS = (b"vertices", b"star", b"edge", b"cut", b"dist", b"path", b"row", b"stats", b"age", b"cert", b"block", b"ask", b"end")
 LENGTHS = {b"vertices": 2, b"edge": 4, b"cut": 3, b"dist": 3, b"path": 3, b"row": 2, b"stats": 1, b"cert": 1, b"block": 1, b"end": 1}
@@ -121,7 +121,7 @@ class Network:
 
     def weight(self, word, place):
         found = number(word, place)
-        if not 1 <= found <= MOST_WEIGHT:
+        if not found <= MOST_WEIGHT:
             raise Refused(9, place)
         return found
 
@@ -141,7 +141,7 @@ class Network:
             edge = (v, u) if group == b"out" else (u, v)
             if edge in edges:
                 raise Refused(8, place)
-            if not 1 <= w <= MOST_WEIGHT:
+            if not w <= MOST_WEIGHT:
                 raise Refused(9, place)
             edges[edge] = w
         return [v, edges]
@@ -317,13 +317,13 @@ def update(rng, n, most):
     u = rng.choice([u for u in range(n) if u != v])
     kind = rng.randrange(3)
     if kind == 0:
-        return "edge %d %d %d" % (v, u, rng.randrange(1, most))
+        return "edge %d %d %d" % (v, u, rng.randrange(most))
     if kind == 1 and rng.randrange(2):
         return "cut %d %d" % (v, u)
     words = ["star %d" % v]
     for group in rng.sample(["out", "in"], rng.randrange(3)):
         words.append(group)
-        words += ["%d:%d" % (u, rng.randrange(1, most)) for u in range(n) if u != v and rng.randrange(2)]
+        words += ["%d:%d" % (u, rng.randrange(most)) for u in range(n) if u != v and rng.randrange(2)]
     return " ".join(words)
 
 

@@ -65,9 +65,9 @@ def read(data):
     lines = Lines(data)
     lines.fixed(b"apsp certificate 1")
     number = lines.named(b"number", lambda _: True)
-    n = lines.named(b"vertices", lambda count: 1 <= count <= 128)
-    edges = lines.table(b"edges", n, 3, lambda u, w: 1 <= w <= 4294967295)
-    entries = lines.table(b"pairs", n, 5, lambda x, d, h, s: d != 0 and 1 <= h <= n - 1 and s < n and s != x)
+    n = lines.named(b"vertices", lambda count: 1 <= count <= 512)
+    edges = lines.table(b"edges", n, 3, lambda u, w: w <= 4294967295)
+    entries = lines.table(b"pairs", n, 5, lambda x, d, h, s: 1 <= h <= n - 1 and s < n and s != x)
     lines.fixed(b"end")
     if lines.rest:
         raise Fault(SHAPE, lines.number + 1)

@@ -28,7 +28,7 @@ def script(n=16, seed=1):
     rng = random.Random(seed)
 
     def edges():
-        return " ".join("%d:%d" % (u, rng.randrange(1, 60)) for u in range(n) if u != v and rng.randrange(2))
+        return " ".join("%d:%d" % (u, rng.randrange(60)) for u in range(n) if u != v and rng.randrange(2))
 
     lines = ["vertices %d" % n]
     for v in range(n):

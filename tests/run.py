@@ -12,13 +12,14 @@ The scripts of examples are cases too: examples/NAME.txt with NAME.out, run with
 users.py has further checks, of the wrapper, the documents, the clients and the examples.
 The certificate that each script leads to is checked by the program itself and by a second checker, and both are tried
 on a small certificate with each byte changed. What a script with blocks may be answered is judged by a referee
-(blocks.py), replies are compared at several numbers of workers (workers.py), the memory of a long session is compared
+(blocks.py), random scripts are answered from the definitions (oracle.py), replies are compared at several numbers of workers (workers.py), the memory of a long session is compared
 with that of a short one, and each allocation of some runs is refused (memory.py; the latter where there is a C compiler).
 """
 
 import blocks
 import certificates
 import memory
+import oracle
 import os
 import pty
 import resource
@@ -171,7 +172,14 @@ def check_memory():
         yield from faults
 
 
-CHECKS = {"certificates": check_certificates, "blocks": check_blocks, "workers": check_workers, "memory": check_memory}
+def check_definitions():
+    """Whether random scripts have the replies that the definitions give."""
+    passed, failed = oracle.tried(PROGRAM, 1, 120, 3)
+    if failed:
+        yield f"{failed} of {passed + failed} random scripts have other replies than the definitions"
+
+
+CHECKS = {"certificates": check_certificates, "definitions": check_definitions, "blocks": check_blocks, "workers": check_workers, "memory": check_memory}
 
 
 def short(data):

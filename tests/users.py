@@ -80,7 +80,7 @@ class Checkout:
 def help_builds_nothing(_program):
     with Checkout() as here:
         usage, version = text_of("wrapper", "usage.txt"), text_of("VERSION")
-        for words, wanted in ([["help"], usage], [["--help"], usage], [["--version"], version]):
+        for words, wanted in ([["help"], usage], [["--help"], usage], [["-h"], usage], [["--version"], version], [["-V"], version]):
             done = here.apsp(*words, env={"PATH": "/usr/bin:/bin"})
             same((done.returncode, done.stdout, done.stderr), (0, wanted, ""), words)
         done = here.apsp(env={"PATH": "/usr/bin:/bin"})
@@ -91,7 +91,8 @@ def words_that_are_none_get_the_usage(program):
     with Checkout(program) as here:
         for words in (["runs"], ["run", "--smooth", "--smooth"]):
             done = here.apsp(*words, input="")
-            same((done.returncode, done.stdout, done.stderr), (2, "", text_of("wrapper", "usage.txt")), words)
+            told, _, usage = done.stderr.partition("\n")
+            same((done.returncode, done.stdout, usage, told[:6]), (2, "", text_of("wrapper", "usage.txt"), "apsp: "), words)
 
 
 def a_link_leads_to_the_program(program):
@@ -124,12 +125,23 @@ def a_build_that_fails_says_where_the_log_is(_program):
         same(done.stderr.splitlines()[-3:-1], ["apsp: low is proved (1 of 2)", "not proved"], "what was proved, and the log's end")
 
 
-def the_manual_has_the_usage(_program):
-    lines = text_of("docs", "apsp.1").replace("\\-", "-").splitlines()
-    lines = [line[4:].lower() if line.startswith(".SH ") else line for line in lines]
-    usage = [line for line in text_of("wrapper", "usage.txt").splitlines() if line]
-    shown = [line for line in lines if line != "name" and not line.startswith(".")]
-    same(shown, usage, "docs/apsp.1 beside wrapper/usage.txt")
+SECTIONS = ["NAME", "SYNOPSIS", "DESCRIPTION", "OPTIONS", "LINES OF A SCRIPT", "EXIT STATUS", "ENVIRONMENT", "EXAMPLES"]
+
+
+def the_manual_has_the_usage(program):
+    lines = text_of("docs", "apsp.1").replace("\\-", "-").replace("\\e", "\\").splitlines()
+    same([line[4:] for line in lines if line.startswith(".SH ")], SECTIONS, "the sections of docs/apsp.1")
+    title, *groups = [group.splitlines() for group in text_of("wrapper", "usage.txt").split("\n\n")]
+    same([line for line in title if line not in lines], [], "the line of NAME")
+    for group in groups:
+        usage = [line for line in group if line.startswith("  ") or not group[-1].startswith("  ")]
+        rest = iter(lines)
+        same([line for line in usage if line not in rest], [], "lines of wrapper/usage.txt that docs/apsp.1 has not, or not in their order")
+    examples = lines[lines.index(".SH EXAMPLES") + 2:lines.index(".fi", lines.index(".SH EXAMPLES"))]
+    with Checkout(program) as here:
+        for command, shown in zip(examples[::2], examples[1::2]):
+            done = run(["bash", "-c", command[2:]], cwd=here.top)
+            same((done.returncode, done.stdout, done.stderr), (0, shown + "\n", ""), command)
 
 
 def the_reading_list_is_that_of_the_sources(_program):
@@ -180,6 +192,48 @@ def explain_says_what_is_expected(program):
             assert told[1].strip()[:80] in line[:80], told[1][:90]
         done = here.apsp("explain", "nothing.txt", cwd=here.top)
         same((done.returncode, done.stdout), (2, ""), "a script that is not there")
+        with open(os.path.join(here.top, "wrong.txt"), "w", encoding="ascii") as file:
+            file.write("vertices 3\ndist 0 3\n")
+        piped = here.apsp("explain", "/dev/stdin", cwd=here.top, input="vertices 3\ndist 0 3\n")
+        same((piped.returncode, piped.stdout), (1, here.apsp("explain", "wrong.txt", cwd=here.top).stdout), "a script from a pipe")
+        done = here.apsp("explain", "wrong.txt", "live", "--foo", cwd=here.top)
+        same((done.returncode, done.stdout), (2, ""), "an option that is none")
+        said = "apsp: '--foo' is no option of live: --workers --readers --slots --smooth"
+        same(done.stderr.splitlines()[0], said, "an option that is none")
+
+
+def a_file_stands_for_standard_input(program):
+    with Checkout(program) as here:
+        with open(os.path.join(here.top, "script.txt"), "w", encoding="ascii") as file:
+            file.write("vertices 2\nedge 0 1 0\ndist 0 1\n")
+        done = here.apsp("run", "script.txt", "--smooth", cwd=here.top)
+        same((done.returncode, done.stdout, done.stderr), (0, "dist 0 1 0\n", ""), "a file behind run")
+        done = here.apsp("run", "nothing.txt", cwd=here.top)
+        said = "apsp: 'nothing.txt' is no file that can be read\n"
+        same((done.returncode, done.stdout, done.stderr), (2, "", said), "a file that is not there")
+
+
+def a_wrong_word_is_named(program):
+    with Checkout(program) as here:
+        for words, said in [
+            (["walk"], "'walk' is no mode: run, live, check or load"),
+            (["run", "--workers", "65"], "'65' behind --workers is no number from 1 to 64"),
+            (["live", "--slots", "1"], "'1' behind --slots is no number from 2 to 64"),
+            (["run", "--smooth", "--smooth"], "--smooth stands twice"),
+            (["check", "--smooth"], "'--smooth' is no option of check"),
+            (["load", "1", "7"], "'1' is no number of vertices from 2 to 128: load N SEED"),
+            (["load", "3", "x"], "'x' is no seed, a number of at most ten digits: load N SEED"),
+        ]:
+            done = here.apsp(*words, input="")
+            same((done.returncode, done.stdout, done.stderr.splitlines()[0]), (2, "", f"apsp: {said}"), words)
+
+
+def an_older_program_runs_without_rt(program):
+    with Checkout(program) as here:
+        os.utime(here.program, (1, 1))
+        done = here.apsp("run", input="vertices 2\ndist 0 1\n", env={"PATH": "/usr/bin:/bin"})
+        same((done.returncode, done.stdout), (0, "dist 0 1 none\n"), "the program as it is")
+        assert "older than its sources" in done.stderr, done.stderr
 
 
 def pages():
@@ -226,15 +280,33 @@ def pictures_of_the_examples(program):
             same((done.returncode, done.stderr), (0, ""), name)
             with open(os.path.join(here.top, "new.svg"), encoding="ascii") as file:
                 same(file.read() == text_of("examples", f"{name}.svg"), True, f"examples/{name}.svg is what {name}.py draws")
+        for text, words, told in [
+            ("vertices 3\nedge 0 1 5\nedge 1 2 5\n", ["--from", "0", "--to", "2"], "from 0 to 2: 10 m by 0 1 2"),
+            ("vertices 3\nedge 0 1 5\n", ["--from", "0", "--to", "2"], "no way leads from 0 to 2"),
+            ("vertices 3\nedge 0 1 5\n", ["--from", "0", "--to", "3"], "planner.py: 3 is no crossing: there are 0 to 2"),
+            ("vertices 3\nblock\n", [], "planner.py: line 2 of way.txt is not understood: block"),
+        ]:
+            with open(os.path.join(here.top, "way.txt"), "w", encoding="ascii") as file:
+                file.write(text)
+            done = run([sys.executable, "examples/planner.py", "--town", "way.txt", *words], cwd=here.top, env=how)
+            same((done.stdout or done.stderr).splitlines()[0], told, text)
+            assert "Traceback" not in done.stderr, done.stderr
+        places = "".join(f"# place {v} {100 * v} 0\n" for v in range(8))
+        with open(os.path.join(here.top, "way.txt"), "w", encoding="ascii") as file:
+            file.write("vertices 8\n" + places + "".join(f"edge {v} {v + 1} 100\n" for v in range(6)))
+        done = run([sys.executable, "examples/simulator.py", "--town", "way.txt", "--svg", "way.svg"], cwd=here.top, env=how)
+        same((done.returncode, done.stderr), (0, ""), "one-way streets, and a crossing out of reach")
+        assert "walkers found no way to their goal" in done.stdout, done.stdout
         done = run([sys.executable, "examples/planner.py", "--check"], cwd=here.top, env=how)
         verdict = done.stdout.splitlines()[-1]
-        if verdict == "this program has no certificates":
-            raise Skip(verdict)
         same(verdict, "certificate yes 80", "the checker's verdict on the planner's certificate")
 
 
 def the_bench_says_what_is_missing(program):
     bench = os.path.join(TOP, "bench", "run.py")
+    for name, wanted in (("run", "Runs generated scripts"), ("beside", "beside a recomputation"), ("live", "a block of 64 updates")):
+        done = run([sys.executable, "-B", os.path.join(TOP, "bench", name + ".py"), "--help"])
+        same((done.returncode, wanted in done.stdout), (0, True), name)
     for named, words, wanted in (
         ("/nonexistent", [], "/nonexistent is not built"),
         (program, ["dense17"], "there is no script dense17"),
@@ -246,10 +318,8 @@ def the_bench_says_what_is_missing(program):
 
 def client_in_python(program):
     tests = os.path.join(TOP, "clients", "python", "test_apsp.py")
-    done = run([sys.executable, "-B", tests], env=dict(os.environ, APSP_PROGRAM=program))
+    done = run([sys.executable, "-B", "-X", "dev", "-W", "error", tests], env=dict(os.environ, APSP_PROGRAM=program))
     same(done.returncode, 0, done.stderr[-3000:])
-    if "skipped" in done.stderr:
-        raise Skip(done.stderr.splitlines()[-1] + ": this program has no certificates")
 
 
 def client_in_c(program):
@@ -259,12 +329,103 @@ def client_in_c(program):
     with tempfile.TemporaryDirectory() as folder:
         built = os.path.join(folder, "test_apsp")
         sources = [os.path.join(TOP, "clients", "c", name) for name in ("apsp.c", "test_apsp.c")]
-        done = run([compiler, "-std=c11", "-O1", "-Wall", "-Wextra", "-o", built, *sources])
+        strict = [compiler, "-std=c11", "-O1", "-g", "-Wall", "-Wextra", "-o", built, *sources]
+        done = run([*strict, "-fsanitize=address,undefined"])
+        if done.returncode:
+            # The compiler has no sanitizers here.
+            done = run(strict)
         same((done.returncode, done.stderr), (0, ""), "the client compiles without a warning")
+        defined = run([compiler, "-std=c11", "-Wall", "-Wextra", "-D_GNU_SOURCE", "-c", sources[0], "-o", built + ".o"])
+        same((defined.returncode, defined.stderr), (0, ""), "the client compiles where _GNU_SOURCE is defined")
         done = run([built, program])
         same(done.returncode, 0, done.stdout)
-        if "skipped" in done.stdout:
-            raise Skip(done.stdout.strip())
+
+
+def graphs_are_converted(program):
+    with Checkout(program) as here:
+        for form, text, words, wanted in [
+            ("dimacs", "c two ways\np sp 4 5\na 1 2 4\na 2 3 3\na 1 3 9\na 1 3 8\na 2 2 1\n", [],
+             "vertices 4\nstar 0 out 1:4 2:8\nstar 1 out 2:3 in 0:4\n"),
+            ("csv", "from,to,weight\na,b,0.5\nb,a,1.5\na,c d,2\n", ["--scale", "2"],
+             "vertices 3\n# name 0 a\n# name 1 b\n# name 2 c d\nstar 0 out 1:1 2:4\nstar 1 out 0:3 in 0:1\n"),
+            ("graphml", '<graphml><key id="d0" for="edge" attr.name="weight"/><graph edgedefault="undirected"><node id="x"/>'
+             '<node id="y"/><edge source="x" target="y"><data key="d0">7</data></edge></graph></graphml>', [],
+             "vertices 2\n# name 0 x\n# name 1 y\nstar 0 out 1:7\nstar 1 out 0:7 in 0:7\n"),
+        ]:
+            with open(os.path.join(here.top, "graph"), "w", encoding="utf-8") as file:
+                file.write(text)
+            done = here.apsp("convert", form, "graph", *words, cwd=here.top)
+            same((done.returncode, done.stdout, done.stderr), (0, wanted, ""), form)
+            asked = here.apsp("run", input=done.stdout + "dist 0 1\n")
+            same((asked.returncode, asked.stdout.split()[:3]), (0, ["dist", "0", "1"]), "the script is accepted")
+        for form, text, told in [
+            ("dimacs", "p sp 2 1\na 1 3 4\n", "line 2: 3 is no vertex of the line 'p sp N M'"),
+            ("csv", "a,b,1\na,b,x\n", "line 2: 'x' is no weight"),
+            ("csv", "a,b,1.5\n", "line 1: the weight 1.5 is no whole number: give a --scale"),
+            ("csv", "a,b,4294967296\n", "line 1: the weight 4294967296 is outside 0 to 4294967295"),
+            ("graphml", "<graphml>\n<graph>\n<node id='x'/>\n", "line 4: no element found"),
+        ]:
+            with open(os.path.join(here.top, "graph"), "w", encoding="utf-8") as file:
+                file.write(text)
+            done = here.apsp("convert", form, "graph", cwd=here.top)
+            same((done.returncode, done.stdout, done.stderr), (1, "", f"apsp convert: graph, {told}\n"), text)
+
+
+def an_installed_program_is_used(program):
+    make = shutil.which("make")
+    if not make:
+        raise Skip("no make is here")
+    with Checkout(program) as here, tempfile.TemporaryDirectory() as prefix:
+        for name in ("Makefile", "README.md", "CHANGELOG.md"):
+            shutil.copy2(os.path.join(TOP, name), here.top)
+        done = run([make, "install", f"PREFIX={prefix}"], cwd=here.top)
+        same(done.returncode, 0, done.stderr)
+        installed = os.path.join(prefix, "bin", "apsp")
+        done = run([installed, "run"], input="vertices 2\nedge 0 1 7\ndist 0 1\n", cwd="/")
+        same((done.returncode, done.stdout, done.stderr), (0, "dist 0 1 7\n", ""), "bin/apsp")
+        done = run([installed, "--version"], cwd="/")
+        same(done.stdout, text_of("VERSION"), "its version")
+        code = "import apsp; n = apsp.Network(2); n.edge(0, 1, 7); print(n.dist(0, 1), n.close())"
+        where = os.path.join(prefix, "share", "apsp", "python")
+        done = run([sys.executable, "-c", code], cwd="/", env=dict(os.environ, PYTHONPATH=where, APSP_PROGRAM=installed))
+        same((done.returncode, done.stdout), (0, "7 0\n"), done.stderr)
+        compiler = shutil.which("cc") or shutil.which("gcc")
+        if compiler:
+            source = os.path.join(prefix, "use.c")
+            with open(source, "w", encoding="ascii") as file:
+                file.write('#include <apsp.h>\nint main(int n, char **w) { return n - 2 + apsp_close(apsp_open(w[1], 3, 0)); }\n')
+            built = os.path.join(prefix, "use")
+            done = run([compiler, source, f"-I{prefix}/include", f"-L{prefix}/lib", "-lapsp", "-o", built])
+            same(done.returncode, 0, done.stderr)
+            same(run([built, installed]).returncode, 0, "a program with the library")
+        done = run([make, "dist"], cwd=here.top)
+        same(done.returncode, 0, done.stderr)
+        archive = os.path.join(here.top, "dist", "apsp-0.1.0.tar.gz")
+        same(run(["tar", "-xzf", archive, "-C", prefix]).returncode, 0, "the archive")
+        done = run(["sha256sum", "--quiet", "-c", "SHA256SUMS"], cwd=os.path.join(prefix, "apsp-0.1.0"))
+        same((done.returncode, done.stdout), (0, ""), "its hashes")
+
+
+def a_package_is_installed_without_a_network(program):
+    with Checkout(program) as here, tempfile.TemporaryDirectory() as target:
+        package = os.path.join(here.top, "clients", "python")
+        done = run([sys.executable, "-m", "pip", "install", "--no-index", "--quiet", "--target", target, package], cwd="/")
+        if "No module named pip" in done.stderr:
+            raise Skip("no pip is here")
+        same(done.returncode, 0, done.stderr)
+        code = "import apsp; n = apsp.Network(2); n.edge(0, 1, 7); print(n.dist(0, 1), n.close(), apsp.__version__)"
+        env = {name: value for name, value in os.environ.items() if name != "APSP_PROGRAM"}
+        done = run([sys.executable, "-c", code], cwd="/", env=dict(env, PYTHONPATH=target))
+        same((done.returncode, done.stdout), (0, "7 0 0.1.0\n"), done.stderr)
+
+
+def the_words_are_completed(_program):
+    bash = shutil.which("bash")
+    for words, wanted in [(["apsp", "li"], "live"), (["apsp", "live", "--sl"], "--slots"), (["apsp", "convert", "d"], "dimacs")]:
+        code = (f"source {shlex.quote(os.path.join(TOP, 'wrapper', 'completion.bash'))}; COMP_WORDS=({' '.join(words)}); "
+                f"COMP_CWORD={len(words) - 1}; _apsp; printf '%s\\n' \"${{COMPREPLY[@]}}\"")
+        done = run([bash, "-c", code], cwd="/")
+        same((wanted in done.stdout.split(), done.stderr), (True, ""), words)
 
 
 CHECKS = [
@@ -278,10 +439,17 @@ CHECKS = [
     the_picture_is_that_of_the_crates,
     each_code_has_its_wrong_line,
     explain_says_what_is_expected,
+    a_file_stands_for_standard_input,
+    a_wrong_word_is_named,
+    an_older_program_runs_without_rt,
     commands_of_the_documents,
     code_of_the_documents,
     the_bench_says_what_is_missing,
     pictures_of_the_examples,
+    graphs_are_converted,
+    an_installed_program_is_used,
+    a_package_is_installed_without_a_network,
+    the_words_are_completed,
     client_in_python,
     client_in_c,
 ]
