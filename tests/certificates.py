@@ -2,6 +2,8 @@
 
 `judge(data)` gives what the mode `check` has to say of the bytes, and its status.
 `mutants(data)` gives the bytes with each byte replaced by several others, left out, or doubled.
+`hostile()` gives texts that mean harm: lines of 16 MB, numbers of 18 digits and more, counts that lie.
+`tables()` gives texts that differ in what they say of tables, by what may be taken for them.
 """
 
 import re
@@ -120,3 +122,54 @@ def mutants(data):
                 yield before + other + behind
         yield before + behind
         yield before + byte + byte + behind
+
+
+MOST_INPUT = 16777216
+# A network with an edge of weight 0 and a vertex that has no way back.
+SMALL = (b"apsp certificate 1", b"number 3", b"vertices 3", b"edges 3", b"0 1 0", b"1 0 10", b"1 2 4", b"pairs 4",
+         b"0 1 0 1 1", b"0 2 4 2 1", b"1 0 10 1 0", b"1 2 4 1 2", b"end")
+EMPTY = (b"apsp certificate 1", b"number 0", b"vertices 2", b"edges 0", b"pairs 0", b"end")
+
+
+def joined(lines):
+    return b"".join(line + b"\n" for line in lines)
+
+
+def changed(lines, number, line):
+    """The text with another line in the place of the one with this number."""
+    return joined(lines[:number - 1] + (line,) + lines[number:])
+
+
+def hostile():
+    """What the text does, and the text."""
+    for number, line in enumerate(SMALL, 1):
+        front = joined(SMALL[:number - 1]) + line
+        for byte in b"0", b"1", b" ", b"\xff":
+            yield "a line that fills the input", front + byte * (MOST_INPUT - len(front))
+        yield "a line without an end", front
+        words = line.split(b" ")
+        for place in range(1, len(words)):
+            for digits in b"9" * 18, b"9" * 19, b"1" * 100, b"18446744073709551616", b"00", b"-1", b"":
+                spelled = b" ".join(words[:place] + [digits] + words[place + 1:])
+                yield "a number of many digits", changed(SMALL, number, spelled)
+    for n, count in ((1, 1), (2, 3), (3, 7), (512, 261632), (512, 261633), (512, 4294967296)):
+        head = (b"apsp certificate 1", b"number 0", b"vertices %d" % n)
+        yield "edges that are not there", joined(head + (b"edges %d" % count,))
+        yield "pairs that are not there", joined(head + (b"edges 0", b"pairs %d" % count, b"end"))
+        yield "edges that are the same", joined(head + (b"edges %d" % count,) + (b"0 1 1",) * 1000)
+        yield "pairs of other vertices", joined(head + (b"edges 0", b"pairs %d" % count) + (b"%d 0 1 1 0" % n,) * 1000)
+    yield "newlines alone", b"\n" * 1000
+    yield "a head again and again", joined(SMALL[:3]) * 1000
+
+
+def tables():
+    """Texts by the number of vertices for which there may be tables: 0 where the fault is in the first three lines.
+    All have one length, behind the newlines at their end, so that holding them takes as much."""
+    found = {0: [b"", b"apsp certificate 2\n", changed(EMPTY, 2, b"number x"), changed(EMPTY, 3, b"vertices 0"),
+                 changed(EMPTY, 3, b"vertices 513"), changed(EMPTY, 3, b"vertices 999999999999999999")]}
+    for n in (2, 64, 512):
+        whole = changed(EMPTY, 3, b"vertices %d" % n).split(b"\n")[:-1]
+        found[n] = [changed(tuple(whole), number, line) for number, line in (
+            (4, b"edges 0"), (4, b"edges 1"), (4, b"edges %d" % (n * (n - 1))), (4, b"edges 999999999999999999"),
+            (5, b"pairs %d" % (n * (n - 1))), (5, b"pairs 999999999999999999"), (5, b"pairs 0\n" + b"x" * 1000))]
+    return {n: [text.ljust(2000, b"\n") for text in texts] for n, texts in found.items()}

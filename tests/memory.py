@@ -81,17 +81,19 @@ class Refuser:
         return done.stdout, done.returncode
 
     def count(self, words, data):
+        """The output and the status, the number of allocations, and the bytes that they asked for."""
         path = os.path.join(self.folder, "count")
         usual = self.run(words, data, REFUSED_COUNT=path)
         with open(path, encoding="ascii") as file:
-            return usual, int(file.read())
+            count, asked = map(int, file.read().split())
+        return usual, count, asked
 
 
 def faults(program, words, data):
     """What went wrong in each run with a refused allocation; the number of runs comes first."""
     with tempfile.TemporaryDirectory() as folder:
         refuser = Refuser(program, folder)
-        (text, status), count = refuser.count(words, data)
+        (text, status), count, _ = refuser.count(words, data)
         settings = [dict(REFUSED_ALLOCATION=str(number), **more) for number in range(1, count + 1)
                     for more in ({}, {"REFUSED_FROM_THERE": "1"})]
         with ThreadPoolExecutor(4) as pool:
@@ -100,6 +102,13 @@ def faults(program, words, data):
     for setting, (got, end) in zip(settings, ends):
         if (got, end) != (text, status) and not (end == 5 and text.startswith(got)):
             yield f"{' '.join(words)} with {setting}: status {end}, output {got[-200:]!r}"
+
+
+def asked(program, words, texts):
+    """For each text the number of allocations of a run, and the bytes that they asked for."""
+    with tempfile.TemporaryDirectory() as folder:
+        refuser = Refuser(program, folder)
+        return [refuser.count(words, text)[1:] for text in texts]
 
 
 def main():

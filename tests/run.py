@@ -11,7 +11,7 @@ A case is a folder with
 The scripts of examples are cases too: examples/NAME.txt with NAME.out, run with the words in NAME.words, if any.
 users.py has further checks, of the wrapper, the documents, the clients and the examples.
 The certificate that each script leads to is checked by the program itself and by a second checker, and both are tried
-on a small certificate with each byte changed. What a script with blocks may be answered is judged by a referee
+on two small certificates with each byte changed, and on texts that mean harm. What a script with blocks may be answered is judged by a referee
 (blocks.py), random scripts are answered from the definitions (oracle.py), replies are compared at several numbers of workers (workers.py), the memory of a long session is compared
 with that of a short one, and each allocation of some runs is refused (memory.py; the latter where there is a C compiler).
 """
@@ -126,13 +126,20 @@ def check_certificates():
         if not certificates.judge(text)[0].startswith(b"certificate yes"):
             yield f"the certificate of {name}: it is not lawful\n  {short(text)}"
     with open(os.path.join(TOP, "examples", "certificate-check.txt"), "rb") as file:
-        texts += [("a changed certificate", text) for text in certificates.mutants(file.read())]
+        small = [file.read(), certificates.joined(certificates.SMALL)]
+    texts += [("a changed certificate", mutant) for text in small for mutant in certificates.mutants(text)]
     with ThreadPoolExecutor(4) as pool:
         answers = list(pool.map(lambda item: run(["check"], item[1], []), texts))
     for (name, text), answer in zip(texts, answers):
         if answer != certificates.judge(text):
             yield f"{name}: wanted {certificates.judge(text)}, got {answer}\n  {short(text)}"
-    print(f"{len(texts)} certificates checked")
+    hostile = 0
+    for name, text in certificates.hostile():
+        hostile += 1
+        answer = run(["check"], text, [])
+        if answer != certificates.judge(text):
+            yield f"{name}: wanted {certificates.judge(text)}, got {answer}\n  {short(text)}"
+    print(f"{len(texts)} certificates and {hostile} texts that mean harm checked")
 
 
 def check_blocks():
@@ -172,6 +179,25 @@ def check_memory():
         yield from faults
 
 
+def check_tables():
+    """Whether the mode check takes nothing for tables where a fault is in the first three lines of a certificate, and
+    later as much as the number of vertices asks for, whatever else the text says."""
+    if not memory.compiler():
+        print("tables: skipped, since there is no C compiler")
+        return
+    found = certificates.tables()
+    taken = {n: set(memory.asked(PROGRAM, ["check"], texts)) for n, texts in found.items()}
+    for n, kinds in taken.items():
+        if len(kinds) != 1:
+            yield f"certificates of {n} vertices take {sorted(kinds)} (allocations, bytes)"
+    if not any(len(kinds) != 1 for kinds in taken.values()):
+        (base, held), = taken[0]
+        for n in sorted(set(taken) - {0}):
+            (count, asked), = taken[n]
+            if count - base != 2 or (asked - held) % (n * n):
+                yield f"the tables of {n} vertices take {count - base} allocations of {asked - held} bytes"
+
+
 def check_definitions():
     """Whether random scripts have the replies that the definitions give."""
     passed, failed = oracle.tried(PROGRAM, 1, 120, 3)
@@ -179,7 +205,7 @@ def check_definitions():
         yield f"{failed} of {passed + failed} random scripts have other replies than the definitions"
 
 
-CHECKS = {"certificates": check_certificates, "definitions": check_definitions, "blocks": check_blocks, "workers": check_workers, "memory": check_memory}
+CHECKS = {"certificates": check_certificates, "definitions": check_definitions, "blocks": check_blocks, "workers": check_workers, "memory": check_memory, "tables": check_tables}
 
 
 def short(data):
