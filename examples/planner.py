@@ -52,11 +52,13 @@ def main():
         print(f"from {start} to {to}: {way.distance} m by {told(way)}")
         print("closed     more m  the way then")
         detours = []
+        bar = towns.Progress(len(way.vertices) - 1, "streets closed and opened")
         for u, v in zip(way.vertices, way.vertices[1:]):
             other = detour(network, town.streets, u, v, start, to)
             more = other.distance - way.distance if other else None
             print(f"{u:>3} - {v:<3}  {'none' if more is None else more:>6}  {told(other) if other else ''}")
             detours.append((more, u, v, other))
+            bar.show(len(detours))
         stats = network.stats()
         print(f"{stats.updates} updates, {stats.paths} paths kept")
         if given.check:
@@ -69,16 +71,22 @@ def main():
 
 
 def draw(town, way, detours, file):
-    """The way, the detour that costs most, and the closed street that causes it."""
+    """The way, the detour that costs most, and the closed street that causes it, over the lengths of all streets."""
     picture = towns.Picture(town)
+    picture.lengths()
     picture.line(way.vertices, WAY, 9)
+    picture.explain(WAY, f"the least way, {way.distance} m")
     costly = [one for one in detours if one[3]]
     if costly:
         more, u, v, other = max(costly, key=lambda one: one[0])
         picture.line(other.vertices, DETOUR, 6, dashes="14 9")
         picture.cross(u, v, CLOSED)
+        picture.explain(DETOUR, f"the way where the street between {u} and {v} is closed (the cross), {more} m more", "14 9")
     picture.dot(way.vertices[0], WAY, "from")
     picture.dot(way.vertices[-1], WAY, "to")
+    if town.rivers:
+        picture.explain(towns.WATER, "the river; its bridges are the streets across it")
+    picture.explain(towns.STREET, "a street with its length in metres; an arrow where it leads one way alone")
     picture.write(file)
 
 

@@ -369,11 +369,11 @@ def faults(program, count, seed=1):
         smooth = ["--smooth"] if rng.randrange(2) else []
 
         def replies(data):
-            done = subprocess.run([program, "run"] + smooth, input=data, stdout=subprocess.PIPE, timeout=120)
+            done = subprocess.run([program, "run"] + smooth, input=data, stdout=subprocess.PIPE, timeout=900)
             return done.stdout.split(b"\n")[:-1]
 
         words = ["live", "--readers", str(readers), "--slots", str(slots)] + smooth
-        done = subprocess.run([program] + words, input=text, stdout=subprocess.PIPE, timeout=120)
+        done = subprocess.run([program] + words, input=text, stdout=subprocess.PIPE, timeout=900)
         fault = judge(text, done.stdout, done.returncode, readers, replies)
         if fault:
             yield f"script {i} of seed {seed} with {' '.join(words)}: {fault.decode()}\n{text.decode()}"

@@ -163,7 +163,7 @@ def large(chance):
 def agrees(program, words, lines, replies):
     """Whether the program gives these replies; says the first that differs."""
     text = "".join(line + "\n" for line in lines)
-    done = subprocess.run([program, *words], input=text, stdout=subprocess.PIPE, text=True, timeout=120)
+    done = subprocess.run([program, *words], input=text, stdout=subprocess.PIPE, text=True, timeout=900)
     given = done.stdout.splitlines()
     if (given, done.returncode) == (replies, 0):
         return True

@@ -2,7 +2,9 @@
 
     tests/promises.py [PAGE]
 
-The head of the page says how its tables are written. The last line is 'N passed, M failed', over the calls of all rows.
+And the other way about: each clause of a public call needs a row that names it. Public is what a crate's root has or hands
+on. The head of the page says how its tables are written, and which clauses stand in none. The last line is
+'N passed, M failed', over the calls of all rows and the public calls that miss one.
 """
 
 import os
@@ -12,10 +14,14 @@ import sys
 TOP = os.path.dirname(os.path.dirname(os.path.abspath(__file__)))
 HEADER = ["promise", "call", "clause"]
 UNNAMED = "its clause"
+# They say of a value that it is one.
+UNSAID = {"lawful", "graph", "star", "is_star", "is_plan"}
 
 OPENS = re.compile(r"(?:pub )?(?:unsafe )?(?P<kind>impl|trait)\b(?P<rest>[^{]*)")
 FUNCTION = re.compile(r"(?P<indent> *)(?P<public>pub )?(?:const )?(?:unsafe )?fn (?P<name>\w+)")
 CLAUSE = re.compile(r"\s*ensures(?: (?P<name>\w+))? \{")
+HANDED_ON = re.compile(r"^pub use (?:\w+::)+(?:\{(?P<names>[^}]*)\}|(?P<name>\w+));", re.M)
+OPEN_MODULE = re.compile(r"^pub mod (\w+);", re.M)
 
 
 def without_parameters(text):
@@ -66,18 +72,34 @@ def calls_in(lines):
             yield owner, found["name"], clauses_behind(lines, at)
 
 
+def read(path):
+    with open(path, encoding="utf-8") as file:
+        return file.read()
+
+
+def handed_on(root):
+    """The names that the root of a crate hands on, and the modules that it opens."""
+    names = set()
+    for found in HANDED_ON.finditer(root):
+        names.update(re.findall(r"\w+", found["names"] or found["name"]))
+    return names, set(OPEN_MODULE.findall(root)) | {"lib", "main"}
+
+
 def read_sources():
     """The clauses of each public call, by crate::call or crate::Type::call."""
     calls = {}
     for crate in sorted(os.listdir(os.path.join(TOP, "crates"))):
         source = os.path.join(TOP, "crates", crate, "src")
+        root = os.path.join(source, "lib.rt")
+        names, modules = handed_on(read(root) if os.path.exists(root) else "")
         for folder, _, files in os.walk(source):
             for name in sorted(files):
-                if name.endswith(".rt") and name != "tests.rt":
-                    with open(os.path.join(folder, name), encoding="utf-8") as file:
-                        for owner, call, clauses in calls_in(file.read().split("\n")):
-                            path = "::".join(part for part in (crate, owner, call) if part)
-                            calls.setdefault(path, set()).update(clauses)
+                if not name.endswith(".rt") or name == "tests.rt":
+                    continue
+                for owner, call, clauses in calls_in(read(os.path.join(folder, name)).split("\n")):
+                    if name.removesuffix(".rt") in modules or (owner or call) in names:
+                        path = "::".join(part for part in (crate, owner, call) if part)
+                        calls.setdefault(path, set()).update(clauses)
     return calls
 
 
@@ -99,8 +121,8 @@ def quoted(text):
     return re.findall(r"`([^`]*)`", text)
 
 
-def faults_of_row(cells, sources):
-    """The number of calls of a row, and what is wrong with it."""
+def faults_of_row(cells, sources, named):
+    """The number of calls of a row, and what is wrong with it. What it names is put into `named`."""
     if len(cells) != 3:
         return 1, ["a row has three cells"]
     calls, groups = quoted(cells[1]), cells[2].split(";")
@@ -113,6 +135,7 @@ def faults_of_row(cells, sources):
     faults = []
     for call, group in zip(calls, groups):
         names = [""] if group.strip() == UNNAMED else quoted(group)
+        named.setdefault(call, set()).update(names)
         if call not in sources:
             faults.append(f"{call} is no public call of the sources")
         elif not names:
@@ -121,18 +144,29 @@ def faults_of_row(cells, sources):
     return len(calls), faults
 
 
+def without_row(sources, named):
+    """Each public call with the clauses that no row names."""
+    for call in sorted(sources):
+        missed = sources[call] - UNSAID - named.get(call, set())
+        if missed:
+            yield call, ", ".join(name or UNNAMED for name in sorted(missed))
+
+
 def main():
     path = sys.argv[1] if len(sys.argv) > 1 else os.path.join(TOP, "docs", "THEOREMS.md")
-    with open(path, encoding="utf-8") as file:
-        page = file.read()
+    page = read(path)
     sources = read_sources()
     count = failed = 0
+    named = {}
     for number, cells in rows_of(page):
-        calls, faults = faults_of_row(cells, sources)
+        calls, faults = faults_of_row(cells, sources, named)
         count += calls
         failed += min(calls, len(faults))
         for fault in faults:
             print(f"{os.path.basename(path)}:{number}: {fault}")
+    for call, clauses in without_row(sources, named):
+        print(f"{os.path.basename(path)}: no row has {clauses} of {call}")
+        count, failed = count + 1, failed + 1
     if count == 0:
         print(f"{os.path.basename(path)}: no table of promises")
         failed = 1

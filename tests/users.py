@@ -1,6 +1,7 @@
 """What a user meets beside the program: the wrapper, the documents' commands, the clients and the examples."""
 
 import os
+import pty
 import re
 import shlex
 import shutil
@@ -10,7 +11,8 @@ import tempfile
 
 HERE = os.path.dirname(os.path.abspath(__file__))
 TOP = os.path.dirname(HERE)
-SECONDS = 120
+# So that no test fails on a machine that has much else to do.
+SECONDS = 900
 
 FAKE_RT = """#!/bin/sh
 # Stands for the prover: leaves what it would leave of a library, and then of the program.
@@ -36,6 +38,22 @@ def text_of(*names):
 
 def run(words, **how):
     return subprocess.run(words, stdout=subprocess.PIPE, stderr=subprocess.PIPE, timeout=SECONDS, text=True, **how)
+
+
+def on_a_terminal(words, **how):
+    """What is written on standard error where that is a terminal."""
+    near, other = pty.openpty()
+    with subprocess.Popen(words, stdout=subprocess.DEVNULL, stderr=other, **how):
+        os.close(other)
+        told = b""
+        try:
+            while piece := os.read(near, 65536):
+                told += piece
+        except OSError:
+            # The other side was closed.
+            pass
+        os.close(near)
+    return told.decode()
 
 
 class Checkout:
@@ -297,6 +315,8 @@ def pictures_of_the_examples(program):
         done = run([sys.executable, "examples/simulator.py", "--town", "way.txt", "--svg", "way.svg"], cwd=here.top, env=how)
         same((done.returncode, done.stderr), (0, ""), "one-way streets, and a crossing out of reach")
         assert "walkers found no way to their goal" in done.stdout, done.stdout
+        bar = on_a_terminal([sys.executable, "examples/simulator.py"], cwd=here.top, env=how)
+        same("] 24 of 24 walkers are there" in bar, True, f"the bar of progress: {bar[-200:]}")
         done = run([sys.executable, "examples/planner.py", "--check"], cwd=here.top, env=how)
         verdict = done.stdout.splitlines()[-1]
         same(verdict, "certificate yes 80", "the checker's verdict on the planner's certificate")
@@ -318,8 +338,10 @@ def the_bench_says_what_is_missing(program):
 
 def client_in_python(program):
     tests = os.path.join(TOP, "clients", "python", "test_apsp.py")
-    done = run([sys.executable, "-B", "-X", "dev", "-W", "error", tests], env=dict(os.environ, APSP_PROGRAM=program))
+    done = run([sys.executable, "-B", "-X", "dev", "-W", "error", tests, "-v"], env=dict(os.environ, APSP_PROGRAM=program))
     same(done.returncode, 0, done.stderr[-3000:])
+    for why in sorted(set(re.findall(r"skipped '(.*)'", done.stderr))):
+        print(f"client_in_python: skipped in part: {why}")
 
 
 def client_in_c(program):
@@ -329,16 +351,23 @@ def client_in_c(program):
     with tempfile.TemporaryDirectory() as folder:
         built = os.path.join(folder, "test_apsp")
         sources = [os.path.join(TOP, "clients", "c", name) for name in ("apsp.c", "test_apsp.c")]
-        strict = [compiler, "-std=c11", "-O1", "-g", "-Wall", "-Wextra", "-o", built, *sources]
-        done = run([*strict, "-fsanitize=address,undefined"])
-        if done.returncode:
-            # The compiler has no sanitizers here.
-            done = run(strict)
-        same((done.returncode, done.stderr), (0, ""), "the client compiles without a warning")
+        strict = [compiler, "-std=c11", "-O1", "-g", "-Wall", "-Wextra", "-pthread", "-o", built, *sources]
+        for sanitizer in ([], ["-fsanitize=address,undefined"], ["-fsanitize=thread"]):
+            done = run(strict + sanitizer)
+            if sanitizer and done.returncode:
+                print(f"client_in_c: skipped in part, since the compiler has no {sanitizer[0]} here")
+                continue
+            same((done.returncode, done.stderr), (0, ""), f"the client compiles without a warning {sanitizer}")
+            done = run([built, program])
+            same((done.returncode, done.stdout), (0, ""), f"{sanitizer} {done.stderr[-2000:]}")
         defined = run([compiler, "-std=c11", "-Wall", "-Wextra", "-D_GNU_SOURCE", "-c", sources[0], "-o", built + ".o"])
         same((defined.returncode, defined.stderr), (0, ""), "the client compiles where _GNU_SOURCE is defined")
-        done = run([built, program])
-        same(done.returncode, 0, done.stdout)
+        if shutil.which("valgrind"):
+            # It sees what no sanitizer of gcc sees: what is read before it is written.
+            plain = run(strict)
+            same((plain.returncode, plain.stderr), (0, ""), "the client compiles")
+            done = run(["valgrind", "-q", "--error-exitcode=99", built, program])
+            same((done.returncode, done.stdout), (0, ""), done.stderr[-2000:])
 
 
 def graphs_are_converted(program):

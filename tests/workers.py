@@ -41,7 +41,7 @@ def faults(program, count, seed=1, sizes=(48,)):
         text = "\n".join(lines).encode() + b"\n"
         smooth = ["--smooth"] if place % 2 else []
         return [subprocess.run([program, "run", "--workers", str(workers)] + smooth, input=text, stdout=subprocess.PIPE,
-                               timeout=120).stdout for workers in WORKERS]
+                               timeout=900).stdout for workers in WORKERS]
 
     with ThreadPoolExecutor(4) as pool:
         for (place, lines), found in zip(enumerate(texts), pool.map(replies, enumerate(texts))):

@@ -6,6 +6,7 @@
 #include <errno.h>
 #include <fcntl.h>
 #include <inttypes.h>
+#include <poll.h>
 #include <stdarg.h>
 #include <stdio.h>
 #include <stdlib.h>
@@ -22,6 +23,7 @@ struct apsp {
     pid_t child, owner;
     int to, from;
     uint32_t vertices;
+    int live;
     /* Whether the latest exchange came to its end: else the network has ended, so that no later call takes its reply. */
     int whole;
     size_t sent;
@@ -34,8 +36,9 @@ struct apsp {
     char read[4096];
 };
 
-static const char *const NAMES[] = {"",      "NoVertices", "VerticesTwice", "Command", "Shape",   "Number",
-                                    "Vertex", "SelfEdge",   "Repeat",        "Weight",  "TooLong", "NeedsLive"};
+static const char *const NAMES[] = {"",        "NoVertices", "VerticesTwice", "Command",   "Shape",
+                                    "Number",  "Vertex",     "SelfEdge",      "Repeat",    "Weight",
+                                    "TooLong", "NeedsLive",  "BlockFull",     "OpenBlock", "Since"};
 
 const char *apsp_name(int code) {
     return code > 0 && (size_t)code < sizeof NAMES / sizeof *NAMES ? NAMES[code] : "";
@@ -46,19 +49,24 @@ static int ended(apsp *network) {
     return APSP_ENDED;
 }
 
+/* Whether an exchange with so many bytes may begin. It is not whole from then on. */
+static int begins(apsp *network, size_t bytes) {
+    if (!network->whole || network->owner != getpid() || bytes > MOST_INPUT - network->sent) {
+        return 0;
+    }
+    network->whole = 0;
+    network->sent += bytes;
+    return 1;
+}
+
 /* Sends what the line has. A signal that comes in between changes nothing. */
 static int send_line(apsp *network) {
     const char *rest = network->line;
     size_t left = network->length;
     network->length = 0;
-    if (!network->whole || network->owner != getpid()) {
+    if (!begins(network, left)) {
         return APSP_ENDED;
     }
-    if (left > MOST_INPUT - network->sent) {
-        return APSP_ENDED;
-    }
-    network->whole = 0;
-    network->sent += left;
     while (left > 0) {
         ssize_t written = send(network->to, rest, left, MSG_NOSIGNAL);
         if (written < 0 && errno == EINTR) {
@@ -103,10 +111,14 @@ static int read_line(apsp *network) {
     }
 }
 
-/* The code of the refusal that the reply is, and the number of its line; 0 where it is none. */
-static int refusal(const apsp *network, uint64_t *line) {
-    int code;
-    return sscanf(network->reply, "line %" SCNu64 " error %d", line, &code) == 2 && code > 0 ? code : APSP_OK;
+/* The code of the refusal that a reply is, and the number of its line; 0 where it is none. */
+static int refusal(const char *reply, uint64_t *line) {
+    char *behind;
+    if (strncmp(reply, "line ", 5) != 0) {
+        return APSP_OK;
+    }
+    *line = strtoull(reply + 5, &behind, 10);
+    return strncmp(behind, " error ", 7) == 0 ? (int)strtoul(behind + 7, NULL, 10) : APSP_OK;
 }
 
 /* Asks what the line has, and leaves the reply, which has to begin as the question does. */
@@ -118,14 +130,15 @@ static int ask(apsp *network) {
         front[length] = network->line[length];
         length++;
     }
+    front[length] = 0;
     int end = send_line(network);
     if (end || (end = read_line(network))) {
         return end;
     }
-    int code = refusal(network, &line);
+    int code = refusal(network->reply, &line);
     int whole_word = length == sizeof front - 1 || network->reply[length] == ' ';
     int fits = code ? line == network->lines : strncmp(network->reply, front, length) == 0 && whole_word;
-    if (strncmp(front, "cert", 5) == 0 && !code) {
+    if (strcmp(front, "cert") == 0 && !code) {
         fits = strncmp(network->reply, "apsp certificate", 16) == 0;
     }
     if (!fits) {
@@ -135,21 +148,15 @@ static int ask(apsp *network) {
     return code;
 }
 
-/* Sends updates. An accepted update has no reply, so a question goes behind them. The answer is the code of the first that
- * was refused, whose place among these lines it leaves. */
-static int update_many(apsp *network, uint64_t *refused) {
-    uint64_t before = network->lines, line;
-    int first = APSP_OK;
-    network->length += (size_t)snprintf(network->line + network->length, ROOM - network->length, "dist 0 0\n");
-    int end = send_line(network);
-    if (end) {
-        return end;
-    }
+/* Reads the refusals of the lines since `before`, behind which a question was sent, up to its reply. */
+static int read_refusals(apsp *network, uint64_t before, uint64_t *refused) {
+    uint64_t line;
+    int first = APSP_OK, end;
     for (;;) {
         if ((end = read_line(network))) {
             return end;
         }
-        int code = refusal(network, &line);
+        int code = refusal(network->reply, &line);
         if (!code && strcmp(network->reply, "dist 0 0 0\n") != 0) {
             return ended(network);
         }
@@ -165,6 +172,15 @@ static int update_many(apsp *network, uint64_t *refused) {
             *refused = line - before - 1;
         }
     }
+}
+
+/* Sends updates. An accepted update has no reply, so a question goes behind them. The answer is the code of the first that
+ * was refused, whose place among these lines it leaves. */
+static int update_many(apsp *network, uint64_t *refused) {
+    uint64_t before = network->lines;
+    network->length += (size_t)snprintf(network->line + network->length, ROOM - network->length, "dist 0 0\n");
+    int end = send_line(network);
+    return end ? end : read_refusals(network, before, refused);
 }
 
 static int update(apsp *network) {
@@ -198,9 +214,20 @@ static char *skip_words(char *place, int count) {
     return place;
 }
 
-static void in_child(const char *program, int smooth, int to, int from) {
+/* The vertices of a walk, which stand behind its weight and the word walk. */
+static int take_walk(char *place, uint32_t *vertices, size_t *count) {
+    *count = 0;
+    place = skip_words(place + 1, 1);
+    while (*place && *place != '\n' && *count < APSP_MOST_VERTICES) {
+        vertices[(*count)++] = (uint32_t)strtoul(place, &place, 10);
+        place += strspn(place, " ");
+    }
+    return APSP_OK;
+}
+
+static void in_child(const char *program, char **words, int to, int from) {
     if (dup2(to, 0) == 0 && dup2(from, 1) == 1) {
-        execlp(program, program, "run", smooth ? "--smooth" : (char *)NULL, (char *)NULL);
+        execvp(program, words);
     }
     _exit(127);
 }
@@ -214,7 +241,7 @@ static void shut(apsp *network) {
     close(network->from);
 }
 
-apsp *apsp_open(const char *program, uint32_t n, int smooth) {
+static apsp *open_with(const char *program, char **words, uint32_t n) {
     int to[2], from[2];
     apsp *network = calloc(1, sizeof *network);
     if (!network || socketpair(AF_UNIX, SOCK_STREAM | SOCK_CLOEXEC, 0, to)) {
@@ -234,7 +261,7 @@ apsp *apsp_open(const char *program, uint32_t n, int smooth) {
     network->from = from[0];
     network->child = fork();
     if (network->child == 0) {
-        in_child(program, smooth, to[0], from[1]);
+        in_child(program, words, to[0], from[1]);
     }
     close(to[0]);
     close(from[1]);
@@ -244,6 +271,28 @@ apsp *apsp_open(const char *program, uint32_t n, int smooth) {
         return NULL;
     }
     return network;
+}
+
+apsp *apsp_open(const char *program, uint32_t n, int smooth) {
+    char *words[] = {(char *)program, "run", smooth ? "--smooth" : NULL, NULL};
+    return open_with(program, words, n);
+}
+
+apsp *apsp_open_live(const char *program, uint32_t n, int smooth, uint32_t readers, uint32_t slots) {
+    char of_readers[16], of_slots[16];
+    char *words[] = {(char *)program, "live",   "--readers", of_readers,
+                     "--slots",       of_slots, smooth ? "--smooth" : NULL, NULL};
+    snprintf(of_readers, sizeof of_readers, "%" PRIu32, readers);
+    snprintf(of_slots, sizeof of_slots, "%" PRIu32, slots);
+    apsp *network = open_with(program, words, n);
+    if (network) {
+        network->live = 1;
+    }
+    return network;
+}
+
+size_t apsp_bytes_left(const apsp *network) {
+    return MOST_INPUT - network->sent;
 }
 
 int apsp_close(apsp *network) {
@@ -307,6 +356,44 @@ int apsp_set_edges(apsp *network, const struct apsp_edge *edges, size_t count, s
     return first;
 }
 
+/* Puts the edges of a list that lead out of a vertex, or into it: those that are more than there may be repeat. */
+static void put_edges_at(apsp *network, const char *word, const struct apsp_edge *edges, size_t count, uint32_t v) {
+    int is_out = strcmp(word, "out") == 0;
+    for (size_t i = 0, found = 0; i < count && found < APSP_MOST_VERTICES; i++) {
+        if (v == (is_out ? edges[i].from : edges[i].to)) {
+            if (found++ == 0) {
+                put(network, " %s", word);
+            }
+            put(network, " %" PRIu32 ":%" PRIu32, is_out ? edges[i].to : edges[i].from, edges[i].weight);
+        }
+    }
+}
+
+int apsp_load(apsp *network, const struct apsp_edge *edges, size_t count, uint32_t *refused) {
+    uint64_t before = network->lines, place = 0;
+    for (size_t i = 0; i < count; i++) {
+        if (edges[i].from >= network->vertices || edges[i].to >= network->vertices) {
+            return APSP_VERTEX;
+        }
+    }
+    for (uint32_t v = 0; v < network->vertices; v++) {
+        put(network, "star %" PRIu32, v);
+        put_edges_at(network, "out", edges, count, v);
+        put_edges_at(network, "in", edges, count, v);
+        put(network, v + 1 < network->vertices ? "\n" : "\ndist 0 0\n");
+        if (send_line(network)) {
+            return APSP_ENDED;
+        }
+        /* A refusal is short, so those of all stars find room in the pipe, and the next star follows at once. */
+        network->whole = v + 1 < network->vertices;
+    }
+    int code = read_refusals(network, before, &place);
+    if (code > 0 && refused) {
+        *refused = (uint32_t)place;
+    }
+    return code;
+}
+
 int apsp_cut(apsp *network, uint32_t u, uint32_t v) {
     put(network, "cut %" PRIu32 " %" PRIu32 "\n", u, v);
     return update(network);
@@ -326,13 +413,7 @@ int apsp_path(apsp *network, uint32_t x, uint32_t y, uint64_t *distance, uint32_
     if (end || (end = take_number(&place, distance))) {
         return end;
     }
-    *count = 0;
-    place = skip_words(place + 1, 1);
-    while (*place && *place != '\n' && *count < APSP_MOST_VERTICES) {
-        vertices[(*count)++] = (uint32_t)strtoul(place, &place, 10);
-        place += strspn(place, " ");
-    }
-    return APSP_OK;
+    return take_walk(place, vertices, count);
 }
 
 int apsp_row(apsp *network, uint32_t x, uint64_t *distances) {
@@ -376,27 +457,287 @@ int apsp_age(apsp *network, const uint32_t *vertices, size_t count, uint64_t *bi
     return take_number(&place, birth);
 }
 
-int apsp_certificate(apsp *network, char **text) {
-    size_t length;
-    FILE *all = open_memstream(text, &length);
-    if (!all) {
-        return APSP_ENDED;
+struct text {
+    char *bytes;
+    size_t length, room;
+};
+
+static int text_room(struct text *text, size_t more) {
+    if (text->length + more > text->room) {
+        size_t room = 2 * text->room + more + 256;
+        char *bytes = realloc(text->bytes, room);
+        if (!bytes) {
+            return APSP_MEMORY;
+        }
+        text->bytes = bytes;
+        text->room = room;
     }
+    return APSP_OK;
+}
+
+int apsp_certificate(apsp *network, char **text) {
+    struct text all = {NULL, 0, 0};
+    *text = NULL;
     put(network, "cert\n");
     int end = ask(network);
     while (!end) {
-        fputs(network->reply, all);
+        size_t length = strlen(network->reply);
+        if (text_room(&all, length + 1)) {
+            end = ended(network);
+            break;
+        }
+        memcpy(all.bytes + all.length, network->reply, length + 1);
+        all.length += length;
         if (strcmp(network->reply, "end\n") == 0) {
             network->whole = 1;
-            break;
+            *text = all.bytes;
+            return APSP_OK;
         }
         network->whole = 0;
         end = read_line(network);
     }
-    if (fclose(all) || end) {
-        free(*text);
-        *text = NULL;
-        return end ? end : APSP_ENDED;
+    free(all.bytes);
+    return end;
+}
+
+/* A question of a block: the line of the block that it is, the code where it was refused, and where its reply stands. */
+struct question {
+    uint32_t x, y;
+    uint64_t line;
+    int code;
+    size_t reply;
+};
+
+struct apsp_block {
+    apsp *network;
+    struct text lines, replies;
+    uint64_t count;
+    struct question *questions;
+    size_t asked, room;
+    int state;
+};
+
+enum { OPEN, LOST, DONE };
+
+apsp_block *apsp_block_new(apsp *network) {
+    apsp_block *block = calloc(1, sizeof *block);
+    if (!block || text_room(&block->lines, 256)) {
+        free(block);
+        return NULL;
     }
+    block->network = network;
+    memcpy(block->lines.bytes, "block\n", 6);
+    block->lines.length = 6;
+    return block;
+}
+
+void apsp_block_free(apsp_block *block) {
+    if (block) {
+        free(block->lines.bytes);
+        free(block->replies.bytes);
+        free(block->questions);
+        free(block);
+    }
+}
+
+/* Puts what the network's line has behind the lines of the block. */
+static int block_line(apsp_block *block) {
+    apsp *network = block->network;
+    size_t length = network->length;
+    network->length = 0;
+    if (block->state != OPEN) {
+        return APSP_ENDED;
+    }
+    if (text_room(&block->lines, length)) {
+        return APSP_MEMORY;
+    }
+    memcpy(block->lines.bytes + block->lines.length, network->line, length);
+    block->lines.length += length;
+    block->count++;
     return APSP_OK;
+}
+
+int apsp_block_star(apsp_block *block, uint32_t v, const struct apsp_item *out, size_t outs, const struct apsp_item *in,
+                    size_t ins) {
+    put(block->network, "star %" PRIu32, v);
+    put_group(block->network, "out", out, outs);
+    put_group(block->network, "in", in, ins);
+    put(block->network, "\n");
+    return block_line(block);
+}
+
+int apsp_block_edge(apsp_block *block, uint32_t u, uint32_t v, uint32_t w) {
+    put(block->network, "edge %" PRIu32 " %" PRIu32 " %" PRIu32 "\n", u, v, w);
+    return block_line(block);
+}
+
+int apsp_block_cut(apsp_block *block, uint32_t u, uint32_t v) {
+    put(block->network, "cut %" PRIu32 " %" PRIu32 "\n", u, v);
+    return block_line(block);
+}
+
+int apsp_block_ask(apsp_block *block, uint32_t x, uint32_t y, uint32_t since) {
+    if (block->asked == block->room) {
+        size_t room = 2 * block->room + 16;
+        struct question *questions = realloc(block->questions, room * sizeof *questions);
+        if (!questions) {
+            return APSP_MEMORY;
+        }
+        block->questions = questions;
+        block->room = room;
+    }
+    put(block->network, "ask %" PRIu32 " %" PRIu32 " since %" PRIu32 "\n", x, y, since);
+    int end = block_line(block);
+    if (!end) {
+        block->questions[block->asked++] = (struct question){x, y, block->count, APSP_OK, 0};
+    }
+    return end;
+}
+
+/* Sends all lines and reads meanwhile, so that neither side waits for the other, up to the reply of the last line. */
+static int exchange(apsp *network, const struct text *sent, struct text *got) {
+    const char *rest = sent->bytes;
+    size_t left = sent->length, begun = 0;
+    for (size_t i = 0; i < left; i++) {
+        network->lines += rest[i] == '\n';
+    }
+    for (;;) {
+        struct pollfd ends[] = {{network->from, POLLIN, 0}, {network->to, POLLOUT, 0}};
+        if (poll(ends, left > 0 ? 2 : 1, -1) < 0) {
+            if (errno == EINTR) {
+                continue;
+            }
+            return APSP_ENDED;
+        }
+        if (left > 0 && ends[1].revents) {
+            ssize_t written = send(network->to, rest, left, MSG_NOSIGNAL | MSG_DONTWAIT);
+            if (written < 0 && errno != EINTR && errno != EAGAIN) {
+                return APSP_ENDED;
+            }
+            rest += written > 0 ? written : 0;
+            left -= written > 0 ? (size_t)written : 0;
+        }
+        if (!ends[0].revents) {
+            continue;
+        }
+        if (text_room(got, 65536)) {
+            return APSP_ENDED;
+        }
+        ssize_t taken = read(network->from, got->bytes + got->length, 65535);
+        if (taken < 0 && errno == EINTR) {
+            continue;
+        }
+        if (taken <= 0) {
+            return APSP_ENDED;
+        }
+        got->length += (size_t)taken;
+        got->bytes[got->length] = 0;
+        while (begun < got->length) {
+            char *newline = memchr(got->bytes + begun, '\n', got->length - begun);
+            if (!newline) {
+                break;
+            }
+            if (strncmp(got->bytes + begun, "dist 0 0 0\n", 11) == 0) {
+                return left == 0 && newline + 1 == got->bytes + got->length ? APSP_OK : APSP_ENDED;
+            }
+            begun = (size_t)(newline + 1 - got->bytes);
+        }
+    }
+}
+
+/* Whether a reply of a block is one to this question. */
+static int answers(const char *reply, const struct question *question) {
+    char *place;
+    strtoull(reply + 3, &place, 10);
+    if (strncmp(place, " path ", 6) != 0) {
+        return 0;
+    }
+    return strtoul(place + 6, &place, 10) == question->x && strtoul(place, &place, 10) == question->y && *place == ' ';
+}
+
+/* Hands each reply to its question, and gives the code of the first refused line, whose place it leaves. */
+static int take_replies(apsp_block *block, uint64_t before, size_t *refused) {
+    size_t next = 0, asked = 0;
+    int first = APSP_OK;
+    for (char *reply = block->replies.bytes; *reply; reply = strchr(reply, '\n') + 1) {
+        uint64_t line = 0;
+        int code = refusal(reply, &line);
+        if (strcmp(reply, "dist 0 0 0\n") == 0) {
+            break;
+        }
+        if (code) {
+            /* The line `block` stands in front, so the lines of the block begin two behind those before it. */
+            uint64_t place = line - before - 2;
+            if (line < before + 2 || place >= block->count) {
+                return APSP_ENDED;
+            }
+            while (asked < block->asked && block->questions[asked].line < place + 1) {
+                asked++;
+            }
+            if (asked < block->asked && block->questions[asked].line == place + 1) {
+                block->questions[asked].code = code;
+            }
+            if (!first) {
+                first = code;
+                *refused = (size_t)place;
+            }
+            continue;
+        }
+        while (next < block->asked && block->questions[next].code) {
+            next++;
+        }
+        if (next == block->asked || strncmp(reply, "at ", 3) != 0 || !answers(reply, &block->questions[next])) {
+            return APSP_ENDED;
+        }
+        block->questions[next++].reply = (size_t)(reply - block->replies.bytes);
+    }
+    while (next < block->asked && block->questions[next].code) {
+        next++;
+    }
+    return next == block->asked ? first : APSP_ENDED;
+}
+
+int apsp_block_run(apsp_block *block, size_t *refused) {
+    static const char last[] = "end\ndist 0 0\n";
+    apsp *network = block->network;
+    uint64_t before = network->lines;
+    size_t place = 0;
+    if (block->state != OPEN) {
+        return APSP_ENDED;
+    }
+    if (!network->live) {
+        return APSP_NEEDS_LIVE;
+    }
+    if (text_room(&block->lines, sizeof last)) {
+        return APSP_MEMORY;
+    }
+    memcpy(block->lines.bytes + block->lines.length, last, sizeof last - 1);
+    block->lines.length += sizeof last - 1;
+    block->state = LOST;
+    if (!begins(network, block->lines.length) || exchange(network, &block->lines, &block->replies)) {
+        return APSP_ENDED;
+    }
+    int code = take_replies(block, before, &place);
+    if (code != APSP_ENDED) {
+        network->whole = 1;
+        block->state = DONE;
+        if (code && refused) {
+            *refused = place;
+        }
+    }
+    return code;
+}
+
+int apsp_block_answer(const apsp_block *block, size_t i, uint64_t *number, uint64_t *distance, uint32_t *vertices,
+                      size_t *count) {
+    if (block->state != DONE || i >= block->asked) {
+        return APSP_ENDED;
+    }
+    if (block->questions[i].code) {
+        return block->questions[i].code;
+    }
+    char *place = block->replies.bytes + block->questions[i].reply + 3;
+    *number = strtoull(place, &place, 10);
+    place = skip_words(place + 1, 3);
+    return take_number(&place, distance) ? APSP_NONE : take_walk(place, vertices, count);
 }

@@ -2,6 +2,7 @@
 #define _GNU_SOURCE
 #include "apsp.h"
 
+#include <pthread.h>
 #include <signal.h>
 #include <stdio.h>
 #include <stdlib.h>
@@ -115,6 +116,107 @@ static void many_edges(const char *program) {
     EXPECT(apsp_close(network) == 1);
 }
 
+static void loads(const char *program) {
+    enum { N = 90 };
+    static struct apsp_edge edges[N * (N - 1)];
+    size_t count = 0;
+    uint32_t refused = 0;
+    uint64_t row[N];
+    struct apsp_stats stats;
+    for (uint32_t u = 0; u < N; u++) {
+        for (uint32_t v = 0; v < N; v++) {
+            if (u != v) {
+                edges[count++] = (struct apsp_edge){u, v, u < v ? v - u : 100000};
+            }
+        }
+    }
+    apsp *network = apsp_open(program, N, 0);
+    EXPECT(apsp_load(network, edges, count, NULL) == APSP_OK);
+    EXPECT(apsp_row(network, 0, row) == APSP_OK && row[1] == 1 && row[N - 1] == N - 1);
+    EXPECT(apsp_row(network, 5, row) == APSP_OK && row[0] == 100000 && row[N - 1] == N - 6);
+    EXPECT(apsp_stats(network, &stats) == APSP_OK && stats.updates == N);
+    EXPECT(apsp_load(network, edges, 3, NULL) == APSP_OK);
+    EXPECT(apsp_row(network, 0, row) == APSP_OK && row[3] == 3 && row[4] == APSP_NO_WALK);
+    edges[1] = edges[0];
+    EXPECT(apsp_load(network, edges, 3, &refused) == APSP_REPEAT && refused == 0);
+    edges[1].to = N;
+    EXPECT(apsp_load(network, edges, 3, &refused) == APSP_VERTEX);
+    EXPECT(apsp_bytes_left(network) > 0 && apsp_bytes_left(network) < 16777216);
+    EXPECT(apsp_close(network) == 1);
+}
+
+static void blocks(const char *program) {
+    enum { MANY = 20000 };
+    uint64_t number = 0, distance = 0;
+    uint32_t walk[APSP_MOST_VERTICES];
+    size_t count = 0, refused = 9;
+    apsp *network = apsp_open_live(program, 3, 0, 2, 4);
+    EXPECT(network && apsp_edge(network, 0, 1, 5) == APSP_OK);
+    apsp_block *block = apsp_block_new(network);
+    EXPECT(apsp_block_edge(block, 1, 2, 6) == APSP_OK && apsp_block_ask(block, 0, 2, 1) == APSP_OK);
+    EXPECT(apsp_block_ask(block, 2, 0, 0) == APSP_OK);
+    EXPECT(apsp_block_answer(block, 0, &number, &distance, walk, &count) == APSP_ENDED);
+    EXPECT(apsp_block_run(block, &refused) == APSP_OK && refused == 9);
+    EXPECT(apsp_block_answer(block, 0, &number, &distance, walk, &count) == APSP_OK && number == 2 && distance == 11);
+    EXPECT(count == 3 && walk[0] == 0 && walk[1] == 1 && walk[2] == 2);
+    EXPECT(apsp_block_answer(block, 1, &number, &distance, walk, &count) == APSP_NONE && number >= 1 && number <= 2);
+    EXPECT(apsp_block_answer(block, 2, &number, &distance, walk, &count) == APSP_ENDED);
+    EXPECT(apsp_block_run(block, NULL) == APSP_ENDED);
+    EXPECT(apsp_block_cut(block, 0, 1) == APSP_ENDED);
+    apsp_block_free(block);
+
+    block = apsp_block_new(network);
+    EXPECT(apsp_block_star(block, 0, NULL, 0, NULL, 0) == APSP_OK && apsp_block_ask(block, 0, 1, 2) == APSP_OK);
+    EXPECT(apsp_block_edge(block, 1, 1, 6) == APSP_OK && apsp_block_ask(block, 0, 1, 1) == APSP_OK);
+    EXPECT(apsp_block_run(block, &refused) == APSP_SINCE && refused == 1);
+    EXPECT(apsp_block_answer(block, 0, &number, &distance, walk, &count) == APSP_SINCE);
+    EXPECT(apsp_block_answer(block, 1, &number, &distance, walk, &count) == APSP_NONE && number == 3);
+    apsp_block_free(block);
+
+    /* More refusals, and more answers, than a pipe has room for. */
+    block = apsp_block_new(network);
+    for (uint32_t i = 0; i < MANY; i++) {
+        EXPECT(apsp_block_edge(block, 0, 7, 1) == APSP_OK && apsp_block_ask(block, 1, 2, 0) == APSP_OK);
+    }
+    EXPECT(apsp_block_run(block, &refused) == APSP_VERTEX && refused == 0);
+    for (size_t i = 0; i < MANY; i++) {
+        EXPECT(apsp_block_answer(block, i, &number, &distance, walk, &count) == APSP_OK && number == 3 && distance == 6);
+    }
+    apsp_block_free(block);
+    EXPECT(apsp_dist(network, 1, 2, &distance) == APSP_OK && distance == 6);
+    EXPECT(apsp_close(network) == 1);
+
+    network = apsp_open(program, 2, 0);
+    block = apsp_block_new(network);
+    EXPECT(apsp_block_edge(block, 0, 1, 5) == APSP_OK && apsp_block_run(block, NULL) == APSP_NEEDS_LIVE);
+    apsp_block_free(block);
+    apsp_block_free(NULL);
+    EXPECT(apsp_dist(network, 0, 1, &distance) == APSP_NONE);
+    EXPECT(apsp_close(network) == 0);
+    EXPECT(apsp_open_live(program, 2, 0, 0, 4) == NULL);
+}
+
+/* Two networks serve two threads. */
+static void *counts_on(void *network) {
+    uint64_t distance;
+    long wrong = 0;
+    for (uint32_t i = 0; i < 500; i++) {
+        wrong += apsp_edge(network, 0, 1, i) != APSP_OK;
+        wrong += apsp_dist(network, 0, 1, &distance) != APSP_OK || distance != i;
+    }
+    return (void *)wrong;
+}
+
+static void threads(const char *program) {
+    pthread_t other;
+    void *wrong = NULL;
+    apsp *one = apsp_open(program, 2, 0), *two = apsp_open(program, 2, 0);
+    EXPECT(one && two && pthread_create(&other, NULL, counts_on, two) == 0);
+    EXPECT(counts_on(one) == NULL);
+    EXPECT(pthread_join(other, &wrong) == 0 && wrong == NULL);
+    EXPECT(apsp_close(one) == 0 && apsp_close(two) == 0);
+}
+
 static volatile sig_atomic_t rung;
 
 static void ring_once(int number) {
@@ -125,19 +227,20 @@ static void ring_once(int number) {
 /* Signals whose handlers return come in between reads and writes, and change no answer. */
 static void signals(const char *program) {
     apsp *network = apsp_open(program, 3, 0);
-    struct sigaction action = {.sa_handler = ring_once}, before;
+    struct sigaction action = {.sa_handler = ring_once};
     const struct itimerval often = {{0, 50}, {0, 50}}, never = {{0, 0}, {0, 0}};
     uint64_t distance = 0;
     int wrong = 0;
     EXPECT(apsp_edge(network, 0, 1, 5) == APSP_OK && apsp_edge(network, 1, 2, 6) == APSP_OK);
-    sigaction(SIGALRM, &action, &before);
+    sigaction(SIGALRM, &action, NULL);
     setitimer(ITIMER_REAL, &often, NULL);
     for (int i = 0; i < 5000; i++) {
         wrong += apsp_dist(network, 0, 1, &distance) != APSP_OK || distance != 5;
         wrong += apsp_dist(network, 1, 2, &distance) != APSP_OK || distance != 6;
     }
     setitimer(ITIMER_REAL, &never, NULL);
-    sigaction(SIGALRM, &before, NULL);
+    /* A late one is not to end the test. */
+    signal(SIGALRM, SIG_IGN);
     EXPECT(wrong == 0 && rung > 0);
     EXPECT(apsp_close(network) == 0);
 }
@@ -154,7 +257,9 @@ static void forks(const char *program) {
         _exit(end != APSP_ENDED);
     }
     EXPECT(apsp_dist(network, 0, 1, &distance) == APSP_OK && distance == 5);
-    alarm(10);
+    /* An end that does not come would be an end by this signal, on however slow a machine. */
+    signal(SIGALRM, SIG_DFL);
+    alarm(300);
     EXPECT(apsp_close(network) == 0);
     alarm(0);
     kill(child, SIGKILL);
@@ -170,6 +275,9 @@ int main(int count, char **words) {
     smoothing(words[1]);
     ring(words[1]);
     many_edges(words[1]);
+    loads(words[1]);
+    blocks(words[1]);
+    threads(words[1]);
     signals(words[1]);
     forks(words[1]);
     EXPECT(apsp_close(NULL) == -1);

@@ -505,7 +505,10 @@ class Network:
 
     def block(self) -> "Block":
         """A block, to be used in a `with`: its updates and questions are sent at its end, and its `answers` stand there
-        then, one a question. The network has to be made with `live`."""
+        then, one a question. A network that was not made with `live` has none (`NeedsLive`)."""
+        if self._words[1] != "live":
+            # Sent, its updates would count by themselves.
+            raise NeedsLive(NeedsLive.code, 1, "block")
         return Block(self)
 
     def without(self, edges: Iterable[Tuple[Any, Any]]) -> "_Without":

@@ -8,7 +8,6 @@ import random
 import signal
 import sys
 import threading
-import time
 import unittest
 
 sys.path.insert(0, os.path.dirname(os.path.abspath(__file__)))
@@ -241,9 +240,10 @@ class Blocks(unittest.TestCase):
             self.assertIsNone(network.dist(0, 2))
         with apsp.Network(2) as network:
             with self.assertRaises(apsp.NeedsLive):
-                with network.block():
-                    pass
+                with network.block() as block:
+                    block.edge(0, 1, 5)
             self.assertIsNone(network.dist(0, 1))
+            self.assertEqual((network.edges(), network.close()), ([], 0))
 
     def test_many_refusals_at_once(self):
         with apsp.Network(2, live=True) as network:
@@ -268,9 +268,10 @@ class Misuse(unittest.TestCase):
             signal.signal(signal.SIGALRM, signal.SIG_IGN)
             signal.setitimer(signal.ITIMER_REAL, 0)
 
-        chance, network, answers, ends = random.Random(1), None, 0, 0
-        end = time.monotonic() + 2
-        while time.monotonic() < end:
+        chance, network, answers, ends, rounds = random.Random(1), None, 0, 0, 0
+        # Thousands of calls; and on a machine that is slow more rounds rather than fewer interrupts inside of a call.
+        while rounds < 150 or (ends < 20 and rounds < 5000):
+            rounds += 1
             if network is None:
                 network, weight = apsp.Network(3), 5
                 network.edge(0, 1, 5)
@@ -297,7 +298,7 @@ class Misuse(unittest.TestCase):
                 network = None
         if network:
             network.close()
-        self.assertGreater(ends, 5)
+        self.assertGreaterEqual(ends, 20)
 
     def test_a_call_inside_of_a_call(self):
         network = apsp.Network(3)
@@ -321,6 +322,7 @@ class Misuse(unittest.TestCase):
             signal.signal(signal.SIGALRM, signal.SIG_IGN)
             signal.setitimer(signal.ITIMER_REAL, 0)
             network.close()
+        self.assertTrue(inside)
         self.assertLessEqual(set(inside), {None, "ended"})
 
     def test_threads(self):
@@ -356,11 +358,9 @@ class Misuse(unittest.TestCase):
             self.assertEqual(os.waitpid(child, 0)[1] >> 8, 7)
             child = os.fork()
             if child == 0:
-                time.sleep(5)
-                os._exit(0)
-            begun = time.monotonic()
+                signal.pause()
+            # The child has no copy of the pipes, so the program ends by itself, and is not killed after a while.
             self.assertEqual(network.close(), 0)
-            self.assertLess(time.monotonic() - begun, 3)
             os.kill(child, signal.SIGKILL)
             os.waitpid(child, 0)
 
@@ -384,7 +384,6 @@ class Misuse(unittest.TestCase):
     def test_a_reply_that_does_not_belong(self):
         network = apsp.Network(3)
         os.write(network._program.to, b"dist 0 0\n")
-        time.sleep(0.2)
         with self.assertRaises(apsp.Ended):
             network.dist(0, 1)
         with self.assertRaises(apsp.Ended):
