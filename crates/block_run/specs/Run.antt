@@ -1,10 +1,10 @@
 -- What a block does to the engine.
 use Rattle.std.specs.Prelude.{◌≡◌, ◌⊎◌, ℕ, ◌≤◌, List, [], ◌∷◌, length, take, All, Result, IfOk, OnOk, OnErr, false}
 use Rattle.apsp_model.specs.Star.{Star}
-use Rattle.apsp_model.specs.Command.{Star_update}
+use Rattle.apsp_model.specs.Command.{Command, Star_update}
 use Rattle.graph_store.specs.Plan.{Plan}
 use Rattle.history_engine.specs.Seen.{EngineSeen}
-use Rattle.history_engine.specs.Advance.{Advance}
+use Rattle.history_engine.specs.Advance.{Advance, StandsInOutline}
 use Rattle.history_engine.specs.Answers.{IsSpentBy}
 use Rattle.block_run.specs.declared.asks.Ask.{Ask}
 use Rattle.block_run.specs.declared.answers.Answer.{Answer}
@@ -23,6 +23,17 @@ pub record IsCutOff (before : EngineSeen) (stars : List Star) (after : EngineSee
   pub reached : EngineSeen
   pub taken : AdvancesBy before (take count stars) reached
   pub end : (after ≡ reached) ⊎ IsSpentBy reached after
+
+-- the commands with the updates of these stars behind them
+abbrev pub with_updates : List Star → List Command → List Command
+with_updates [] commands = commands
+with_updates (star ∷ stars) commands = with_updates stars (Star_update star ∷ commands)
+
+-- the engine stands in outline for the commands with the first ones of these updates behind them
+pub record StandsForFront (e : EngineSeen) (stars : List Star) (commands : List Command) : Type 0 where
+  pub count : ℕ
+  pub inside : count ≤ length stars
+  pub stands : StandsInOutline e (with_updates (take count stars) commands)
 
 -- the engine is where the plan begins
 pub record IsStartOf (plan : Plan) (e : EngineSeen) : Type 0 where

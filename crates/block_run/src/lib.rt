@@ -4,6 +4,7 @@
 
 mod answers;
 mod asks;
+pub mod laws;
 mod live;
 mod order;
 mod publish;
@@ -13,6 +14,3 @@ pub use answers::{Answer, BlockAnswers, VertexList};
 pub use apsp_model::MOST_READERS;
 pub use asks::{Ask, Asks};
 pub use live::live_block;
-
-#[cfg(test)]
-mod tests;

@@ -1,20 +1,12 @@
 //! Mends and grows at the start, in the middle and at the end of lists of commands, with and without smoothing. What is
 //! wanted was computed from the definitions by listing all simple walks.
 
-ghost use Rattle.std.specs.Prelude.{◌≡◌, IfOk};
-ghost use Rattle.graph_store.specs.Making.{IsVertexCount};
-
-use apsp_io::OpenGate;
-use apsp_model::MOST_VERTICES;
-use graph_store::Star;
+use crate::calls::{Edge, grow, mend, put};
 use history_engine::{Change, Engine};
 use std::alloc::Global;
 use std::marker::Sync;
 use std::test::Fail;
 use std::thread::Threads;
-
-/// The ends of an edge, and its weight.
-type Edge = (u32, u32, u64);
 
 /// An update or a mend.
 #[derive(Clone, Copy, Debug)]
@@ -46,30 +38,6 @@ const fn wanted(change: [u64; 4], counts: [u64; 6], births: [u64; 2]) -> Seen {
     }
 }
 
-/// The star of v with these edges.
-fn star_with(alloc: Global, n: u32, v: u32, edges: &[Edge]) -> Result<Star, Fail>
-    requires count { IsVertexCount n }
-    ensures vertices { IfOk result (λ s. s.vertices ≡ n) }
-{
-    let mut star = Star::new(alloc, n, v)?;
-    'edges: for &edge in edges {
-        put_edge(&mut star, edge)?;
-    }
-    Ok(star)
-}
-
-fn put_edge(star: &mut Star, edge: Edge) -> Result<(), Fail>
-    ensures vertices { star.new.vertices ≡ star.old.vertices }
-{
-    let (from, to, weight) = edge;
-    if from == star.vertex() {
-        star.set_out(to, weight)?;
-    } else {
-        star.set_in(from, weight)?;
-    }
-    Ok(())
-}
-
 fn make<R: Threads + Sync>(
     rt: &R,
     alloc: Global,
@@ -81,37 +49,6 @@ fn make<R: Threads + Sync>(
         Command::Grow(n) => grow(engine, n),
         Command::Mend => mend(rt, engine),
     }
-}
-
-fn put<R: Threads + Sync>(
-    rt: &R,
-    alloc: Global,
-    engine: &mut Engine,
-    v: u32,
-    edges: &[Edge],
-) -> Result<Change, Fail> {
-    if engine.number() >= 1 << 40 {
-        return Err(Fail::from("too many updates"));
-    }
-    let star = star_with(alloc, engine.vertices(), v, edges)?;
-    let change = engine.star(rt, &star, 1, &OpenGate)?;
-    Ok(change)
-}
-
-fn grow(engine: &mut Engine, n: u32) -> Result<Change, Fail> {
-    if engine.vertices() >= n || n > MOST_VERTICES || engine.number() >= 1 << 40 {
-        return Err(Fail::from("no grow"));
-    }
-    let change = engine.grow(n)?;
-    Ok(change)
-}
-
-fn mend<R: Threads + Sync>(rt: &R, engine: &mut Engine) -> Result<Change, Fail> {
-    if engine.steps() >= 1 << 62 {
-        return Err(Fail::from("too many steps"));
-    }
-    let change = engine.mend(rt, 1, &OpenGate)?;
-    Ok(change)
 }
 
 /// What an engine that is not spent says behind a change.

@@ -18,7 +18,7 @@ use Rattle.fixup_math.proofs.Start.{vertex_of_one}
 use Rattle.history_engine.specs.Seen.{EngineSeen, paths_of, moment_seen, SayTheSame}
 use Rattle.history_engine.specs.Advance.{Advance, steps_of_grow}
 use Rattle.history_engine.specs.Lawful.{AreLawful}
-use Rattle.history_engine.specs.Stepping.{IsWidenedTo}
+use Rattle.book_widening.specs.Widened.{IsWidenedTo}
 use Rattle.history_engine.proofs.Moments.{same_turned}
 use Rattle.history_engine.proofs.Stepping.{to_book, from_book, book_on, paths_are, edge_lists}
 

@@ -10,5 +10,3 @@ pub mod Seconds
 pub mod Mends
 pub mod Grows
 pub mod Widening
-pub mod Copying
-pub mod Longer

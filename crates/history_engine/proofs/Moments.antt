@@ -8,8 +8,11 @@ use Rattle.apsp_model.specs.Local.{HistStep, HistGrow, IsLocal}
 use Rattle.apsp_model.specs.Command.{Command, Star_update, Grow_update, Mend, Step, Star_step, Grow_step, Mend_step, cleaned, with_cleaning, with_star_steps, steps_of, graph_of, vertices_of}
 use Rattle.apsp_model.specs.Kept.{Moment, opening, after_star, after_grow, after_mend, after_steps, moment_of, IsWithEdge, BirthStep}
 use Rattle.apsp_model.specs.Counts.{CountIs, RemovedIs, PathsAre, TurnoverIs, LatestTurnoverIs}
+use Rattle.apsp_model.specs.Paths.{KeptPath}
 use Rattle.history_engine.specs.Seen.{EngineSeen, moment_seen, SayTheSame, BookIs}
 use Rattle.history_engine.specs.Advance.{Advance, Stands, StandsInOutline, AdvanceByUpdate, AdvanceByMend, steps_of_star, steps_of_grow}
+use Rattle.history_engine.specs.Answers.{IsSpentBy}
+use Rattle.history_engine.specs.Lawful.{AreLawful}
 
 pub same_turned : (m n : Moment) → SayTheSame m n → SayTheSame n m
 same_turned m n s = record {
@@ -342,3 +345,30 @@ pub law : (before after : EngineSeen) (command : Command) (commands : List Comma
 law before after (Star_update s) commands a stands = star_stands before after s commands a stands
 law before after (Grow_update m) commands a stands = grow_stands before after m commands a stands
 law before after Mend commands a stands = mend_stands before after commands a stands.outline
+
+-- what is lawful at some number of steps is so at each
+pub lawful_at : (g : Graph) (t : ℕ) (paths : List KeptPath) → ((s : ℕ) × AreLawful g s paths) → AreLawful g t paths
+lawful_at g t paths h = record {
+  lawful = record {
+    closed = h.1.lawful.closed;
+    singles = h.1.lawful.singles;
+    marked_kept = h.1.lawful.marked_kept;
+    kept = h.1.lawful.kept;
+    single_births = h.1.lawful.single_births;
+    least = h.1.lawful.least;
+  };
+  weights = h.1.weights;
+  once = h.1.once;
+}
+
+-- where memory ran out all but the book is as it was
+pub spent_outline : (before after : EngineSeen) (commands : List Command) → IsSpentBy before after
+    → StandsInOutline before commands → StandsInOutline after commands
+spent_outline before after commands is stands =
+    let F : EngineSeen → Type 0 = λ e. StandsInOutline e commands in
+    subst F (sym is) (record {
+      graph = stands.graph;
+      vertices = stands.vertices;
+      steps = stands.steps;
+      turnover = stands.turnover;
+    })

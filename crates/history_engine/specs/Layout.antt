@@ -1,5 +1,5 @@
 -- What an engine's fields say, and what holds of them. No public clause cites this module.
-use Rattle.std.specs.Prelude.{◌≡◌, ◌+◌, ◌*◌, ◌^◌, ◌≤◌, false, length}
+use Rattle.std.specs.Prelude.{◌≡◌, ℕ, ◌+◌, ◌*◌, ◌^◌, ◌≤◌, false, length}
 use Rattle.apsp_model.specs.declared.TheConstants.{MOST_UPDATES}
 use Rattle.path_book.specs.Book.{kept_paths}
 use Rattle.history_engine.specs.declared.engine.Engine.TheInside.{Inside}
@@ -20,11 +20,11 @@ seen_of e = record {
 }
 
 -- the parts have one number of vertices, an update makes few steps, a mend is made only where there were fewer than
--- 2 ^ 62, and the paths are lawful until memory ran out
+-- 2 ^ 62, and the paths are lawful, at some number of steps, until memory ran out
 pub record IsEngine (e : Inside) : Type 0 where
   pub star_size : e.before.vertices ≡ e.graph.vertices
   pub book_size : e.spent ≡ false → e.book.arena.vertices ≡ e.graph.vertices
   pub timeline_size : e.timeline.size ≡ e.graph.vertices
   pub few_updates : length e.timeline.vertices ≤ MOST_UPDATES
   pub few_steps : e.progress.steps ≤ 2 ^ 62 + 42 * length e.timeline.vertices
-  pub paths : e.spent ≡ false → AreLawful e.graph e.progress.steps (kept_paths e.book)
+  pub paths : e.spent ≡ false → (steps : ℕ) × AreLawful e.graph steps (kept_paths e.book)

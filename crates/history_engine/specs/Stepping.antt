@@ -1,13 +1,12 @@
 -- Star steps one behind the other: what one leaves, and what stands between two steps of an update.
 -- No public clause cites this module.
-use Rattle.std.specs.Prelude.{◌≡◌, ℕ, ◌+◌, ◌⊎◌, Bool, IsTrue, List, length, Option, Contains}
+use Rattle.std.specs.Prelude.{◌≡◌, ℕ, ◌+◌, Bool, List, length, Option, Contains}
 use Rattle.apsp_model.specs.Graph.{Graph}
 use Rattle.apsp_model.specs.Star.{Star, star_of}
-use Rattle.apsp_model.specs.Local.{IsVertex}
 use Rattle.apsp_model.specs.Command.{Step, with_cleaning}
 use Rattle.apsp_model.specs.Kept.{after_star, after_mend, after_steps, IsWithEdge}
 use Rattle.apsp_model.specs.Counts.{CountIs, RemovedIs, PathsAre}
-use Rattle.apsp_model.specs.Paths.{KeptPath, IsOncePerList, moment_in}
+use Rattle.apsp_model.specs.Paths.{KeptPath, moment_in}
 use Rattle.history_engine.specs.Seen.{EngineSeen, moment_seen, paths_of, SayTheSame}
 use Rattle.history_engine.specs.Lawful.{AreLawful}
 use Rattle.history_engine.specs.Advance.{steps_of_star}
@@ -25,20 +24,6 @@ pub record IsMendDone (g : Graph) (steps : ℕ) (after : List KeptPath) (formed 
   pub says : SayTheSame (moment_in (steps + 1) after) (after_mend steps g)
   pub lawful : AreLawful g (steps + 1) after
   pub formed_is : PathsAre (moment_in (steps + 1) after) formed
-
--- a single vertex below n, as it is kept
-pub record IsSingleKept (n : ℕ) (k : KeptPath) : Type 0 where
-  pub single : IsVertex n k.list
-  pub weight : k.weight ≡ 0
-  pub historical : IsTrue k.historical
-  pub birth : k.birth ≡ 0
-
--- the kept paths with the single vertices below n beside them: what a grow to n vertices makes of a book
-pub record IsWidenedTo (n : ℕ) (before after : List KeptPath) : Type 0 where
-  pub old : (k : KeptPath) → Contains before k → Contains after k
-  pub new : (k : KeptPath) → Contains after k → Contains before k ⊎ IsSingleKept n k
-  pub singles : (p : List ℕ) → IsVertex n p → (k : KeptPath) × Contains after k × (k.list ≡ p) × IsSingleKept n k
-  pub once : IsOncePerList after
 
 -- between two steps of the update by the star s: the steps made so far, and the vertices that are still to be cleaned
 pub record UpdateInvariant (e : EngineSeen) (s : Star) (g : Graph) (left : List ℕ) (steps formed removed : ℕ)

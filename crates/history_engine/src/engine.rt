@@ -15,13 +15,13 @@ ghost use Rattle.history_engine.specs.Least.{IsLeastPath};
 ghost use Rattle.history_engine.specs.Seen.{paths_of};
 ghost use Rattle.history_engine.specs.declared.engine.EngineError.TheVariants as error;
 
-use crate::growing::wider_book;
 use crate::least::Least;
 use crate::mending::mend_step;
 use crate::timeline::Timeline;
 use crate::update::{Progress, Workers, update};
 use apsp_io::Gate;
 use apsp_model::Memory;
+use book_widening::wider_book;
 use graph_store::{Graph, MakeError, Star};
 use path_book::Book;
 use std::alloc::Global;
@@ -277,7 +277,7 @@ impl Engine {
                 self.progress.steps += 1;
                 self.spent = false;
                 Ok(Change {
-                    number: self.timeline.len() as u64,
+                    number: self.number(),
                     steps: 1,
                     formed: made.formed,
                     removed: 0,

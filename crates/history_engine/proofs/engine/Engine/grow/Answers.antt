@@ -7,7 +7,8 @@ use Rattle.apsp_model.proofs.Growths.{graph_grows}
 use Rattle.path_book.specs.Book.{kept_paths}
 use Rattle.history_engine.specs.Seen.{EngineSeen, paths_of}
 use Rattle.history_engine.specs.Lawful.{AreLawful}
-use Rattle.history_engine.specs.Stepping.{IsWidenedTo}
+use Rattle.book_widening.specs.Widened.{IsWidenedTo}
+use Rattle.history_engine.proofs.Moments.{lawful_at}
 use Rattle.history_engine.proofs.Grows.{grown_lawful, grow_done}
 use Rattle.history_engine.proofs.engine.Engine.grow.Goals as goal
 use Rattle.history_engine.proofs.engine.Engine.grow.Goals.{After-len}
@@ -22,6 +23,12 @@ grows c =
     let same : c.self.inside.graph.vertices ≡ c.args.self.now.graph.vertices =
     ap (λ (e : EngineSeen). e.graph.vertices) c.self.view_is in
     graph_grows c.self.inside.graph c.args.n is (omega (arith, same, c.requires.more))
+
+lawful_here : (c : After-len)
+    → AreLawful c.self.inside.graph c.self.inside.progress.steps (kept_paths c.self.inside.book)
+lawful_here c =
+    lawful_at c.self.inside.graph c.self.inside.progress.steps (kept_paths c.self.inside.book)
+    (c.self.invariant.paths c.if-self.false)
 
 wide : (c : After-len) → c.widen_into.new.other ≡ widened c.self.inside.graph c.args.n
 wide c = c.widen_into.ensures.wider ∙ ap (λ (h : Graph). widened c.self.inside.graph h.vertices) c.in-Ok.ensures.ok
@@ -46,11 +53,14 @@ invariant_of-self-2 c =
           c.grow.ensures.size ∙ sym n_is;
       few_updates = omega (arith, more, now, c.requires.few);
       few_steps = omega (arith, more, c.self.invariant.few_steps);
-      paths = λ _. subst (λ (h : Graph). AreLawful h (c.self.inside.progress.steps + 1)
-          (kept_paths c.in-Ok-wider_book.book)) (sym (wide c))
-          (grown_lawful c.self.inside.graph c.args.n c.self.inside.progress.steps (kept_paths c.self.inside.book)
-          (kept_paths c.in-Ok-wider_book.book) (grows c) (c.self.invariant.paths c.if-self.false)
-          c.in-Ok-wider_book.ensures.widened);
+      paths = λ _. (
+        _,
+        subst (λ (h : Graph). AreLawful h (c.self.inside.progress.steps + 1)
+            (kept_paths c.in-Ok-wider_book.book)) (sym (wide c))
+            (grown_lawful c.self.inside.graph c.args.n c.self.inside.progress.steps (kept_paths c.self.inside.book)
+            (kept_paths c.in-Ok-wider_book.book) (grows c) (lawful_here c)
+            c.in-Ok-wider_book.ensures.widened),
+      );
     }
 
 pub returns-clause-advance : goal.returns-clause-advance
@@ -61,7 +71,7 @@ returns-clause-advance c =
     c.in-Ok-wider_book.ensures.widened in
     grow_done c.args.self.now _ c.args.n
     (subst (λ (e : EngineSeen). IsGrowable e.graph c.args.n) v (grows c))
-    (subst (λ (e : EngineSeen). AreLawful e.graph e.steps (paths_of e)) v (c.self.invariant.paths c.if-self.false))
+    (subst (λ (e : EngineSeen). AreLawful e.graph e.steps (paths_of e)) v (lawful_here c))
     at_seen
     (ap (λ (e : EngineSeen). e.opening) v)
     (ap (λ (e : EngineSeen). e.smooth) v)

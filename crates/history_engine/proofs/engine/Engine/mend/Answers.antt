@@ -12,7 +12,7 @@ invariant_of-self g c =
       timeline_size = c.self.invariant.timeline_size;
       few_updates = c.self.invariant.few_updates;
       few_steps = omega (arith, now, c.requires.few);
-      paths = λ _. c.in-Ok.ensures.done.lawful;
+      paths = λ _. (_, c.in-Ok.ensures.done.lawful);
     }
 
 pub returns-in-Ok-clause-advance : goal.returns-in-Ok-clause-advance

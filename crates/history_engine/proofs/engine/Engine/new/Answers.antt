@@ -12,8 +12,11 @@ invariant_of-result c =
       timeline_size = c.in-Ok-new-2.ensures.size ∙ sym count;
       few_updates = omega (arith, ap length c.in-Ok-new-2.ensures.vertices);
       few_steps = omega arith;
-      paths = λ _. opening_lawful c.in-Ok-new.book c.args.n c.in-Ok-new.ensures.lawful c.in-Ok-new.ensures.opening
-          c.in_ok-graph.graph c.in_ok-graph.ensures.ok;
+      paths = λ _. (
+        _,
+        opening_lawful c.in-Ok-new.book c.args.n c.in-Ok-new.ensures.lawful c.in-Ok-new.ensures.opening
+            c.in_ok-graph.graph c.in_ok-graph.ensures.ok,
+      );
     }
 
 pub returns-clause-stands : goal.returns-clause-stands

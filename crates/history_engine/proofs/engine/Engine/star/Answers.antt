@@ -7,6 +7,7 @@ use Rattle.path_book.specs.Book.{kept_paths}
 use Rattle.history_engine.specs.Seen.{EngineSeen, paths_of}
 use Rattle.history_engine.specs.Lawful.{IsStepReady}
 use Rattle.history_engine.specs.Stepping.{UpdateInvariant}
+use Rattle.history_engine.proofs.Moments.{lawful_at}
 use Rattle.history_engine.proofs.Updating.{star_ready, taken_back}
 use Rattle.history_engine.proofs.Stepping.{update_done}
 use Rattle.history_engine.proofs.engine.Engine.star.Given.{Over}
@@ -18,7 +19,7 @@ update-made-requires-clause-ready g c κs within =
     let steps = c.self.inside.progress.steps in
     subst (λ v. IsStepReady v c.apply.new.self steps paths) (sym c.vertex-v.ensures.vertex)
     (subst (λ (h : Graph). IsStepReady c.args.star.now.vertex h steps paths) (sym c.apply.ensures.after)
-    (star_ready c.self.inside.graph c.args.star.now steps paths (c.self.invariant.paths c.if-self.false)))
+    (star_ready c.self.inside.graph c.args.star.now steps paths (lawful_at c.self.inside.graph steps paths (c.self.invariant.paths c.if-self.false))))
 
 -- all steps of the update were made
 made : (g : Over) (c : goal.After-len g) → UpdateInvariant c.args.self.now c.args.star.now c.apply.new.self []
@@ -48,13 +49,13 @@ invariant_of-self g c =
           c.record.ensures.size ∙ c.update-made.ensures.timeline_size ∙ c.self.invariant.timeline_size ∙ sym same;
       few_updates = omega (arith, more, now, c.requires.few);
       few_steps = omega (arith, more, c.in-Ok.ensures.steps_few, c.self.invariant.few_steps);
-      paths = λ e. (made g c).lawful;
+      paths = λ e. (_, (made g c).lawful);
     }
 
 pub returns-in-Ok-clause-advance : goal.returns-in-Ok-clause-advance
 returns-in-Ok-clause-advance g c =
     update_done c.args.self.now c.args.star.now _
-    (subst IsOncePerList (ap paths_of c.self.view_is) (c.self.invariant.paths c.if-self.false).once)
+    (subst IsOncePerList (ap paths_of c.self.view_is) (c.self.invariant.paths c.if-self.false).1.once)
     (ap (λ (e : EngineSeen). e.opening) c.self.view_is)
     (ap (λ (e : EngineSeen). e.smooth) c.self.view_is)
     (c.apply.ensures.after ∙ ap (λ (e : EngineSeen). star_of e.graph c.args.star.now) c.self.view_is)

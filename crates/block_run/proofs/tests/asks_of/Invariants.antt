@@ -1,6 +1,0 @@
-use Rattle.std.proofs.Common.{◌<◌, ◌≤◌, All}
-use Rattle.block_run.specs.declared.asks.Ask.{Ask as Question}
-use Rattle.block_run.proofs.tests.asks_of.Given as goal
-
-abbrev pub invariant-wanted : goal.invariant-wanted
-invariant-wanted l = All (λ (a : Question). (a.x < 3) × (a.y < 3) × (a.since ≤ 2)) l.asks

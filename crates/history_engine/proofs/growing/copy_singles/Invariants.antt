@@ -1,5 +1,0 @@
-use Rattle.history_engine.proofs.Longer.{AreSinglesCopied}
-use Rattle.history_engine.proofs.growing.copy_singles.Given as goal
-
-abbrev pub invariant-vertices : goal.invariant-vertices
-invariant-vertices l = AreSinglesCopied l.book l.wide l.v l.ids.items l.copies.items

@@ -1,8 +1,0 @@
-use Rattle.std.proofs.Common.{◌≡◌, ◌-◌, ◌≤◌}
-use Rattle.history_engine.specs.Copies.{IsLevel, AreCopies, AreCopied}
-use Rattle.history_engine.proofs.growing.wider_book.Given as goal
-
-abbrev pub invariant-levels : goal.invariant-levels
-invariant-levels l =
-    IsLevel l.book (l.counter - 1) l.level.items × AreCopies l.book l.wide l.copies.items
-    × AreCopied l.book (l.counter - 1) l.copies.items × (l.wide.arena.vertices ≡ l.n) × (1 ≤ l.counter)

@@ -1,5 +1,0 @@
-use Rattle.std.proofs.Common.{◌<◌, All, take}
-use Rattle.history_engine.proofs.tests.birth.Given as goal
-
-abbrev pub invariant-list : goal.invariant-list
-invariant-list l = All (λ v. v < l.n) (take l.v-index l.list)

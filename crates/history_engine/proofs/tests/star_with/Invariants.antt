@@ -1,5 +1,0 @@
-use Rattle.std.proofs.Common.{◌≡◌}
-use Rattle.history_engine.proofs.tests.star_with.Given as goal
-
-abbrev pub invariant-edges : goal.invariant-edges
-invariant-edges l = l.star.vertices ≡ l.n
