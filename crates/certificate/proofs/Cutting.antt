@@ -79,13 +79,24 @@ avoids-append c (x ∷ a) b h k = at (not (x == c)) (λ e. avoids-append c a b e
     at true again e = again e
     at false again e = cc
 
--- digits have no byte below that of 0
-pub digits_avoid : (c : ℕ) (w : List ℕ) → c < 48 → AllDigits 10 w → avoids c w ≡ true
-digits_avoid c [] low d = refl
-digits_avoid c (b ∷ bs) low d =
-    let digit : IsDigit b = digit_from_value b d.0 in
-    let apart : b ≡ c → ⊥ = λ e. omega (arith, digit.low, low, e) in
-    ap (λ t. not t && avoids c bs) (ne_eqb b c apart) ∙ digits_avoid c bs low d.1
+-- the byte is no digit
+abbrev pub IsNoDigit : ℕ → Type 0
+IsNoDigit c = (b : ℕ) → IsDigit b → b ≡ c → ⊥
+
+pub newline_apart : IsNoDigit 10
+newline_apart b d e = omega (arith, d.low, e)
+
+pub space_apart : IsNoDigit 32
+space_apart b d e = omega (arith, d.low, e)
+
+pub colon_apart : IsNoDigit 58
+colon_apart b d e = omega (arith, d.high, e)
+
+-- digits have no other byte
+pub digits_avoid : (c : ℕ) (w : List ℕ) → IsNoDigit c → AllDigits 10 w → avoids c w ≡ true
+digits_avoid c [] apart d = refl
+digits_avoid c (b ∷ bs) apart d =
+    ap (λ t. not t && avoids c bs) (ne_eqb b c (apart b (digit_from_value b d.0))) ∙ digits_avoid c bs apart d.1
 
 -- ---- by places
 

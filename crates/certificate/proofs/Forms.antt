@@ -1,16 +1,16 @@
 -- The lines of edges and pairs, from the text to the map and back: for `pair_line`, and for the tables in `Texts`.
-use Rattle.std.specs.Prelude.{◌≡◌, ◌≢◌, ℕ, ◌-◌, ◌<◌, ◌≤◌, ◌^◌, Bool, true, false, not, ◌==◌, ◌&&◌, nat_lt, nat_le, if◌then◌else◌, List, [], ◌∷◌, Option, Some, None, refl}
+use Rattle.std.specs.Prelude.{◌≡◌, ◌≢◌, ℕ, ◌-◌, ◌<◌, ◌≤◌, ◌^◌, Bool, true, false, not, ◌==◌, ◌&&◌, nat_lt, nat_le, if◌then◌else◌, List, [], ◌∷◌, length, slice_index, Option, Some, None, refl}
 use Rattle.std.proofs.Common.{sym, ◌∙◌, ap, subst, arith}
 use Rattle.std.proofs.lemmas.Bool.Decides.{nat_tests}
 use Rattle.apsp_model.specs.declared.TheConstants.{MOST_VERTICES, MOST_WEIGHT}
 use Rattle.apsp_model.specs.Graph.{IsEdgeOf}
 use Rattle.apsp_model.specs.Stated.{Entry, IsEntryOf}
-use Rattle.certificate.specs.Cuts.{◌and_then◌, numbers_in}
-use Rattle.certificate.specs.Grammar.{spaced, edge_line_text, pair_line_text}
-use Rattle.certificate.specs.Reading.{edge_of_numbers, pair_of_numbers, edge_in, pair_in, ends_fit, edge_fits, entry_fits, pair_fits}
+use Rattle.certificate.specs.Cuts.{◌and_then◌, numbers_by}
+use Rattle.certificate.specs.Grammar.{parted, edge_line_text, pair_line_text, edge_word_text, pair_word_text}
+use Rattle.certificate.specs.Reading.{edge_of_numbers, pair_of_numbers, edge_in, pair_in, edge_in_word, pair_in_word, ends_fit, edge_fits, entry_fits, pair_fits}
 use Rattle.certificate.specs.Answer.{if_fits}
-use Rattle.certificate.proofs.Cutting.{avoids}
-use Rattle.certificate.proofs.Spellings.{joint, some_same, AreSmall, AreNumbers, numbers_parts, numbers_again, spaced_avoids}
+use Rattle.certificate.proofs.Cutting.{avoids, newline_apart, space_apart, colon_apart}
+use Rattle.certificate.proofs.Spellings.{joint, some_same, AreSmall, AreNumbers, numbers_parts, numbers_again, parted_avoids}
 
 -- an item that was given is one that fits
 pub fits_if : {V : Type 0} (fits : (ℕ × ℕ) × V → Bool) (o : Option ((ℕ × ℕ) × V)) (e : (ℕ × ℕ) × V)
@@ -62,11 +62,11 @@ pair_row (a ∷ b ∷ c ∷ d ∷ f ∷ []) e h =
 pair_row (a ∷ b ∷ c ∷ d ∷ f ∷ g ∷ ks) e h = cc
 
 -- the weight of an entry that was read has at most 18 digits
-pub pair_small : (fits : (ℕ × ℕ) × Entry → Bool) (line ks : List ℕ) (e : (ℕ × ℕ) × Entry) → numbers_in 5 line ≡ Some ks
+pub pair_small : (fits : (ℕ × ℕ) × Entry → Bool) (line ks : List ℕ) (e : (ℕ × ℕ) × Entry) → numbers_by 32 5 line ≡ Some ks
     → Some e ≡ if_fits fits (pair_of_numbers ks) → e.1.dist < 10 ^ 18
 pair_small fits line ks e read h =
     let row = pair_row ks e (item_if fits (pair_of_numbers ks) e h) in
-    let small : AreSmall ks = (numbers_parts 4 line ks read).small in
+    let small : AreSmall ks = (numbers_parts 32 4 line ks read).small in
     let there : AreSmall (e.0.0 ∷ e.0.1 ∷ e.1.dist ∷ e.1.hops ∷ e.1.next ∷ []) = subst AreSmall row.is small in
     there.1.1.0
 
@@ -132,15 +132,20 @@ pub record IsForm {V : Type 0} (item_in : List ℕ → Option ((ℕ × ℕ) × V
   pub parts : (l : List ℕ) (e : (ℕ × ℕ) × V) → item_in l ≡ Some e → (l ≡ line e) × Few e
   pub again : (e : (ℕ × ℕ) × V) → fits e ≡ true → Few e → (item_in (line e) ≡ Some e) × (avoids 10 (line e) ≡ true)
 
+-- an item that is in range, and has few digits
+pub record IsItem {V : Type 0} (fits : (ℕ × ℕ) × V → Bool) (Few : (ℕ × ℕ) × V → Type 0) (e : (ℕ × ℕ) × V) : Type 0 where
+  pub fit : fits e ≡ true
+  pub few : Few e
+
 -- the lines of edges have the form of an item
 pub edges_form : (n : ℕ) → n ≤ MOST_VERTICES → IsForm edge_in (edge_fits n) edge_line_text (λ _. Unit {0})
 edges_form n most = record { parts = parts; again = again }
   where
     parts : (l : List ℕ) (e : (ℕ × ℕ) × ℕ) → edge_in l ≡ Some e → (l ≡ edge_line_text e) × Unit {0}
     parts l e h =
-        let j = joint (numbers_in 3 l) edge_of_numbers e h in
-        let ks : AreNumbers 3 l j.value = numbers_parts 2 l j.value j.first in
-        (ks.text ∙ ap spaced (edge_row j.value e j.second).is, tt)
+        let j = joint (numbers_by 32 3 l) edge_of_numbers e h in
+        let ks : AreNumbers 32 3 l j.value = numbers_parts 32 2 l j.value j.first in
+        (ks.text ∙ ap (parted 32) (edge_row j.value e j.second).is, tt)
 
     small : (e : (ℕ × ℕ) × ℕ) → IsEdgeOf n e.0.0 e.0.1 e.1 → AreSmall (e.0.0 ∷ e.0.1 ∷ e.1 ∷ [])
     small e h = (omega (arith, h.from, most), (omega (arith, h.to, most), (omega (arith, h.most), tt)))
@@ -149,9 +154,8 @@ edges_form n most = record { parts = parts; again = again }
         × (avoids 10 (edge_line_text e) ≡ true)
     again e h few =
         let s : AreSmall (e.0.0 ∷ e.0.1 ∷ e.1 ∷ []) = small e (edge_from_test n e h) in (
-          ap (λ o. o and_then edge_of_numbers) (numbers_again e.0.0 (e.0.1 ∷ e.1 ∷ []) s),
-          spaced_avoids
-              (e.0.0 ∷ e.0.1 ∷ e.1 ∷ []) s,
+          ap (λ o. o and_then edge_of_numbers) (numbers_again 32 e.0.0 (e.0.1 ∷ e.1 ∷ []) space_apart s),
+          parted_avoids 10 32 (e.0.0 ∷ e.0.1 ∷ e.1 ∷ []) newline_apart refl s,
         )
 
 -- the lines of pairs have the form of an item
@@ -160,11 +164,11 @@ pairs_form n most = record { parts = parts; again = again }
   where
     parts : (l : List ℕ) (e : (ℕ × ℕ) × Entry) → pair_in l ≡ Some e → (l ≡ pair_line_text e) × (e.1.dist < 10 ^ 18)
     parts l e h =
-        let j = joint (numbers_in 5 l) pair_of_numbers e h in
-        let ks : AreNumbers 5 l j.value = numbers_parts 4 l j.value j.first in
+        let j = joint (numbers_by 32 5 l) pair_of_numbers e h in
+        let ks : AreNumbers 32 5 l j.value = numbers_parts 32 4 l j.value j.first in
         let row = pair_row j.value e j.second in
         let there : AreSmall (e.0.0 ∷ e.0.1 ∷ e.1.dist ∷ e.1.hops ∷ e.1.next ∷ []) = subst AreSmall row.is ks.small in
-        (ks.text ∙ ap spaced row.is, there.1.1.0)
+        (ks.text ∙ ap (parted 32) row.is, there.1.1.0)
 
     small : (e : (ℕ × ℕ) × Entry) → IsEntryOf n e.0.0 e.0.1 e.1 → e.1.dist < 10 ^ 18
         → AreSmall (e.0.0 ∷ e.0.1 ∷ e.1.dist ∷ e.1.hops ∷ e.1.next ∷ [])
@@ -181,6 +185,114 @@ pairs_form n most = record { parts = parts; again = again }
     again e h few =
         let s : AreSmall (e.0.0 ∷ e.0.1 ∷ e.1.dist ∷ e.1.hops ∷ e.1.next ∷ []) =
         small e (entry_from_test n e h) few in (
-          ap (λ o. o and_then pair_of_numbers) (numbers_again e.0.0 (e.0.1 ∷ e.1.dist ∷ e.1.hops ∷ e.1.next ∷ []) s),
-          spaced_avoids (e.0.0 ∷ e.0.1 ∷ e.1.dist ∷ e.1.hops ∷ e.1.next ∷ []) s,
+          ap (λ o. o and_then pair_of_numbers) (numbers_again 32 e.0.0 (e.0.1 ∷ e.1.dist ∷ e.1.hops ∷ e.1.next ∷ []) space_apart s),
+          parted_avoids 10 32 (e.0.0 ∷ e.0.1 ∷ e.1.dist ∷ e.1.hops ∷ e.1.next ∷ []) newline_apart refl s,
         )
+
+-- ---- the form of an item's word behind the first number of its line
+
+-- what the word of an item looks like, where Few is what its digits say beyond its ranges
+pub record IsWordForm {V : Type 0} (item_in : ℕ → List ℕ → Option ((ℕ × ℕ) × V)) (fits : (ℕ × ℕ) × V → Bool)
+    (word : (ℕ × ℕ) × V → List ℕ) (Few : (ℕ × ℕ) × V → Type 0) : Type 0 where
+  pub parts : (u : ℕ) (w : List ℕ) (e : (ℕ × ℕ) × V) → item_in u w ≡ Some e → (w ≡ word e) × (e.0.0 ≡ u) × Few e
+  pub again : (e : (ℕ × ℕ) × V) → fits e ≡ true → Few e → (item_in e.0.0 (word e) ≡ Some e)
+      × (avoids 32 (word e) ≡ true) × (avoids 10 (word e) ≡ true)
+  pub first : (e : (ℕ × ℕ) × V) → fits e ≡ true → e.0.0 < 10 ^ 18
+
+-- the list behind the first of two equal ones
+heads : (u v : ℕ) (ks ls : List ℕ) → ◌≡◌ {A = List ℕ} (u ∷ ks) (v ∷ ls) → (u ≡ v) × (ks ≡ ls)
+heads u v ks ls e = (cc, cc)
+
+-- the words of edges have the form of an item
+pub edge_words_form : (n : ℕ) → n ≤ MOST_VERTICES
+    → IsWordForm edge_in_word (edge_fits n) edge_word_text (λ _. Unit {0})
+edge_words_form n most = record { parts = parts; again = again; first = first }
+  where
+    parts : (u : ℕ) (w : List ℕ) (e : (ℕ × ℕ) × ℕ) → edge_in_word u w ≡ Some e → (w ≡ edge_word_text e) × (e.0.0 ≡ u)
+        × Unit {0}
+    parts u w e h =
+        let j = joint (numbers_by 58 2 w) (λ ks. edge_of_numbers (u ∷ ks)) e h in
+        let ks : AreNumbers 58 2 w j.value = numbers_parts 58 1 w j.value j.first in
+        let row = heads u e.0.0 j.value (e.0.1 ∷ e.1 ∷ []) (edge_row (u ∷ j.value) e j.second).is in
+        (ks.text ∙ ap (parted 58) row.1, sym row.0, tt)
+
+    small : (e : (ℕ × ℕ) × ℕ) → IsEdgeOf n e.0.0 e.0.1 e.1 → AreSmall (e.0.1 ∷ e.1 ∷ [])
+    small e h = (omega (arith, h.to, most), (omega (arith, h.most), tt))
+
+    again : (e : (ℕ × ℕ) × ℕ) → edge_fits n e ≡ true → Unit {0} → (edge_in_word e.0.0 (edge_word_text e) ≡ Some e)
+        × (avoids 32 (edge_word_text e) ≡ true) × (avoids 10 (edge_word_text e) ≡ true)
+    again e h few =
+        let s : AreSmall (e.0.1 ∷ e.1 ∷ []) = small e (edge_from_test n e h) in (
+          ap (λ o. o and_then (λ ks. edge_of_numbers (e.0.0 ∷ ks)))
+              (numbers_again 58 e.0.1 (e.1 ∷ []) colon_apart s),
+          parted_avoids 32 58 (e.0.1 ∷ e.1 ∷ []) space_apart refl s,
+          parted_avoids 10 58 (e.0.1 ∷ e.1 ∷ []) newline_apart refl s,
+        )
+
+    first : (e : (ℕ × ℕ) × ℕ) → edge_fits n e ≡ true → e.0.0 < 10 ^ 18
+    first e h = omega (arith, (edge_from_test n e h).from, most)
+
+-- the words of pairs have the form of an item
+pub pair_words_form : (n : ℕ) → n ≤ MOST_VERTICES
+    → IsWordForm pair_in_word (pair_fits n) pair_word_text (λ e. e.1.dist < 10 ^ 18)
+pair_words_form n most = record { parts = parts; again = again; first = first }
+  where
+    parts : (x : ℕ) (w : List ℕ) (e : (ℕ × ℕ) × Entry) → pair_in_word x w ≡ Some e → (w ≡ pair_word_text e)
+        × (e.0.0 ≡ x) × (e.1.dist < 10 ^ 18)
+    parts x w e h =
+        let j = joint (numbers_by 58 4 w) (λ ks. pair_of_numbers (x ∷ ks)) e h in
+        let ks : AreNumbers 58 4 w j.value = numbers_parts 58 3 w j.value j.first in
+        let row = heads x e.0.0 j.value (e.0.1 ∷ e.1.dist ∷ e.1.hops ∷ e.1.next ∷ [])
+        (pair_row (x ∷ j.value) e j.second).is in
+        let there : AreSmall (e.0.1 ∷ e.1.dist ∷ e.1.hops ∷ e.1.next ∷ []) = subst AreSmall row.1 ks.small in
+        (ks.text ∙ ap (parted 58) row.1, sym row.0, there.1.0)
+
+    small : (e : (ℕ × ℕ) × Entry) → IsEntryOf n e.0.0 e.0.1 e.1 → e.1.dist < 10 ^ 18
+        → AreSmall (e.0.1 ∷ e.1.dist ∷ e.1.hops ∷ e.1.next ∷ [])
+    small e h few =
+        (omega (arith, h.to, most), (few, (omega (arith, h.most_hops, most), (omega (arith, h.next, most), tt))))
+
+    again : (e : (ℕ × ℕ) × Entry) → pair_fits n e ≡ true → e.1.dist < 10 ^ 18
+        → (pair_in_word e.0.0 (pair_word_text e) ≡ Some e) × (avoids 32 (pair_word_text e) ≡ true)
+        × (avoids 10 (pair_word_text e) ≡ true)
+    again e h few =
+        let s : AreSmall (e.0.1 ∷ e.1.dist ∷ e.1.hops ∷ e.1.next ∷ []) = small e (entry_from_test n e h) few in (
+          ap (λ o. o and_then (λ ks. pair_of_numbers (e.0.0 ∷ ks)))
+              (numbers_again 58 e.0.1 (e.1.dist ∷ e.1.hops ∷ e.1.next ∷ []) colon_apart s),
+          parted_avoids 32 58 (e.0.1 ∷ e.1.dist ∷ e.1.hops ∷ e.1.next ∷ []) space_apart refl s,
+          parted_avoids 10 58 (e.0.1 ∷ e.1.dist ∷ e.1.hops ∷ e.1.next ∷ []) newline_apart refl s,
+        )
+
+    first : (e : (ℕ × ℕ) × Entry) → pair_fits n e ≡ true → e.0.0 < 10 ^ 18
+    first e h = omega (arith, (entry_from_test n e h).from, most)
+
+-- ---- the numbers of a word, by their places
+
+-- the item that the numbers of a word say
+pub edge_word_is : (u : ℕ) (w ns : List ℕ) → numbers_by 58 2 w ≡ Some ns
+    → edge_in_word u w ≡ Some ((u, slice_index ns 0), slice_index ns 1)
+edge_word_is u w ns h = at ns (numbers_parts 58 1 w ns h).count h
+  where
+    at : (ns : List ℕ) → length ns ≡ 2 → numbers_by 58 2 w ≡ Some ns
+        → edge_in_word u w ≡ Some ((u, slice_index ns 0), slice_index ns 1)
+    at [] count h = absurd (omega (arith, count))
+    at (a ∷ []) count h = absurd (omega (arith, count))
+    at (a ∷ b ∷ []) count h = ap (λ o. o and_then (λ ks. edge_of_numbers (u ∷ ks))) h
+    at (a ∷ b ∷ c ∷ ns) count h = absurd (omega (arith, count))
+
+pub pair_word_is : (u : ℕ) (w ns : List ℕ) → numbers_by 58 4 w ≡ Some ns
+    → (pair_in_word u w ≡ Some
+    ((u, slice_index ns 0), record { dist = slice_index ns 1; hops = slice_index ns 2; next = slice_index ns 3 }))
+    × (slice_index ns 1 < 10 ^ 18)
+pair_word_is u w ns h =
+    let p : AreNumbers 58 4 w ns = numbers_parts 58 3 w ns h in at ns p.count p.small h
+  where
+    at : (ns : List ℕ) → length ns ≡ 4 → AreSmall ns → numbers_by 58 4 w ≡ Some ns → (pair_in_word u w ≡ Some
+        ((u, slice_index ns 0), record { dist = slice_index ns 1; hops = slice_index ns 2; next = slice_index ns 3 }))
+        × (slice_index ns 1 < 10 ^ 18)
+    at [] count small h = absurd (omega (arith, count))
+    at (a ∷ []) count small h = absurd (omega (arith, count))
+    at (a ∷ b ∷ []) count small h = absurd (omega (arith, count))
+    at (a ∷ b ∷ c ∷ []) count small h = absurd (omega (arith, count))
+    at (a ∷ b ∷ c ∷ d ∷ []) count small h = (ap (λ o. o and_then (λ ks. pair_of_numbers (u ∷ ks))) h, small.1.0)
+    at (a ∷ b ∷ c ∷ d ∷ e ∷ ns) count small h = absurd (omega (arith, count))

@@ -1,18 +1,17 @@
 -- What a sink was given, give after give: for `write_certificate` and the calls under it.
-use Rattle.std.specs.Prelude.{◌≡◌, ℕ, zero, suc, ◌+◌, ◌*◌, ◌<◌, ◌≤◌, Bool, is_some, if◌then◌else◌, List, [], ◌∷◌, ◌++◌, map as each, length, take, Option, Some, None, Result, Ok, Err, refl}
+use Rattle.std.specs.Prelude.{◌≡◌, ℕ, zero, suc, ◌+◌, ◌*◌, ◌<◌, ◌≤◌, Bool, is_some, if◌then◌else◌, List, [], ◌∷◌, ◌++◌, length, take, Option, Some, None, Result, Ok, Err, refl}
 use Rattle.std.specs.Io.KnownBytes.{Appends}
 use Rattle.std.proofs.Common.{sym, ◌∙◌, ap, subst, arith, append_assoc, append-nil, inl, inr, length-append}
 use Rattle.std.proofs.Math.Seq.{take-append-add}
 use Rattle.std.proofs.lemmas.Bool.{cases_eq}
-use Rattle.std.proofs.lemmas.List.{map-append, take-append-le}
+use Rattle.std.proofs.lemmas.List.{take-append-le}
 use Rattle.apsp_io.specs.Streams.{GrowsByPrefix}
 use Rattle.apsp_io.specs.declared.sink.GiveError.{GiveError}
 use Rattle.apsp_io.specs.declared.sink.GiveError.TheVariants as give
 use Rattle.certificate.specs.Table.{item_list, row_items, table_items}
 use Rattle.certificate.specs.Grammar.{joined, named}
 use Rattle.certificate.specs.Giving.{GivesText}
-use Rattle.certificate.specs.Writing.{items_text, table_text}
-use Rattle.certificate.proofs.Texts.{joined_append}
+use Rattle.certificate.specs.Writing.{row_line_text, rows_text, table_text}
 
 -- a sink that was given nothing is as it was
 pub appends_nothing : (old : Option (List ℕ)) → Appends old old []
@@ -71,106 +70,65 @@ given_last (Ok u) old mid new f g h a b c x y e =
 given_last (Err d) old mid new f g h a b c x y e =
     given_stops d old mid new f g h a b c [] x y (e ∙ ap (λ xs. a ++ xs) (sym (append-nil b)))
 
--- ---- the text of items
+-- ---- the text of rows
+
+-- what comes behind a front
+pub record IsFront (a c : List ℕ) : Type 0 where
+  pub rest : List ℕ
+  pub whole : c ≡ a ++ rest
+
+front_more : (a c d : List ℕ) → IsFront a c → IsFront a (c ++ d)
+front_more a c d h = record { rest = h.rest ++ d; whole = ap (λ xs. xs ++ d) h.whole ∙ append_assoc a h.rest d }
+
+same_front : (a : List ℕ) → IsFront a a
+same_front a = record { rest = []; whole = sym (append-nil a) }
+
+one_up : (v : ℕ) → v + 1 ≡ suc v
+one_up v = omega arith
 
 module _ {V : Type 0} where
-  pub text_append : (line : (ℕ × ℕ) × V → List ℕ) (a b : List ((ℕ × ℕ) × V))
-      → items_text line (a ++ b) ≡ items_text line a ++ items_text line b
-  text_append line a b = ap joined (map-append line a b) ∙ joined_append (each line a) (each line b)
-
-  text_three : (line : (ℕ × ℕ) × V → List ℕ) (a b t c : List ((ℕ × ℕ) × V)) → c ≡ a ++ (b ++ t)
-      → items_text line c ≡ items_text line a ++ (items_text line b ++ items_text line t)
-  text_three line a b t c e =
-      ap (items_text line) e ∙ text_append line a (b ++ t) ∙ ap (λ xs. items_text line a ++ xs) (text_append line b t)
-
-  -- what comes behind a front
-  pub record IsFront (a c : List ((ℕ × ℕ) × V)) : Type 0 where
-    pub rest : List ((ℕ × ℕ) × V)
-    pub whole : c ≡ a ++ rest
-
-  front_more : (a c d : List ((ℕ × ℕ) × V)) → IsFront a c → IsFront a (c ++ d)
-  front_more a c d h = record { rest = h.rest ++ d; whole = ap (λ xs. xs ++ d) h.whole ∙ append_assoc a h.rest d }
-
-  same_front : (a : List ((ℕ × ℕ) × V)) → IsFront a a
-  same_front a = record { rest = []; whole = sym (append-nil a) }
-
   pub row_more : (row : ℕ → Option V) (u v : ℕ) → row_items row u (v + 1) ≡ row_items row u v
       ++ item_list (u, v) (row v)
-  row_more row u v = ap (row_items row u) (one v)
-    where
-      one : (v : ℕ) → v + 1 ≡ suc v
-      one v = omega arith
+  row_more row u v = ap (row_items row u) (one_up v)
 
   pub table_more : (f : ℕ → ℕ → Option V) (n u : ℕ) → table_items f n (u + 1) ≡ table_items f n u ++ row_items (f u) u n
-  table_more f n u = ap (table_items f n) (one u)
-    where
-      one : (v : ℕ) → v + 1 ≡ suc v
-      one v = omega arith
+  table_more f n u = ap (table_items f n) (one_up u)
 
-  row_front : (row : ℕ → Option V) (u k m : ℕ) → k ≤ m → IsFront (row_items row u k) (row_items row u m)
-  row_front row u k zero below =
-      let none : k ≡ zero = omega arith in
-      subst (λ j. IsFront (row_items row u j) (row_items row u zero)) (sym none) (same_front (row_items row u zero))
-  row_front row u k (suc m) below = elim (cases_eq k (suc m)) [
-    | inl same ↦ subst (λ j. IsFront (row_items row u j) (row_items row u (suc m))) (sym same)
-        (same_front (row_items row u (suc m)))
-    | inr other ↦ front_more (row_items row u k) (row_items row u m) (item_list (u, m) (row m))
-        (row_front row u k m (omega (arith, below, other)))
-  ]
+  module _ (word : (ℕ × ℕ) × V → List ℕ) where
+    rows_more : (f : ℕ → ℕ → Option V) (n u : ℕ) → rows_text word f n (u + 1) ≡
+        rows_text word f n u ++ row_line_text word (row_items (f u) u n)
+    rows_more f n u = ap (rows_text word f n) (one_up u)
 
-  table_front : (f : ℕ → ℕ → Option V) (n k m : ℕ) → k ≤ m → IsFront (table_items f n k) (table_items f n m)
-  table_front f n k zero below =
-      let none : k ≡ zero = omega arith in
-      subst (λ j. IsFront (table_items f n j) (table_items f n zero)) (sym none) (same_front (table_items f n zero))
-  table_front f n k (suc m) below = elim (cases_eq k (suc m)) [
-    | inl same ↦ subst (λ j. IsFront (table_items f n j) (table_items f n (suc m))) (sym same)
-        (same_front (table_items f n (suc m)))
-    | inr other ↦ front_more (table_items f n k) (table_items f n m) (row_items (f m) m n)
-        (table_front f n k m (omega (arith, below, other)))
-  ]
+    rows_front : (f : ℕ → ℕ → Option V) (n k m : ℕ) → k ≤ m → IsFront (rows_text word f n k) (rows_text word f n m)
+    rows_front f n k zero below =
+        let none : k ≡ zero = omega arith in
+        subst (λ j. IsFront (rows_text word f n j) (rows_text word f n zero)) (sym none)
+        (same_front (rows_text word f n zero))
+    rows_front f n k (suc m) below = elim (cases_eq k (suc m)) [
+      | inl same ↦ subst (λ j. IsFront (rows_text word f n j) (rows_text word f n (suc m))) (sym same)
+          (same_front (rows_text word f n (suc m)))
+      | inr other ↦ front_more (rows_text word f n k) (rows_text word f n m) (row_line_text word (row_items (f m) m n))
+          (rows_front f n k m (omega (arith, below, other)))
+    ]
 
-  module _ (line : (ℕ × ℕ) × V → List ℕ) (old mid new : Option (List ℕ)) (f g h : ℕ) where
-    pub row_goes_on : (row : ℕ → Option V) (u v : ℕ) → Given old mid f g (items_text line (row_items row u v))
-        → Appends mid new (items_text line (item_list (u, v) (row v))) → g ≤ h
-        → Given old new f h (items_text line (row_items row u (v + 1)))
-    row_goes_on row u v x y z =
-        given_more old mid new f g h _ _ _ x y z
-        (ap (items_text line) (row_more row u v) ∙ text_append line (row_items row u v) (item_list (u, v) (row v)))
+    module _ (old mid new : Option (List ℕ)) (f g h : ℕ) where
+      -- a row more was given
+      pub rows_go_on : (t : ℕ → ℕ → Option V) (n u : ℕ) → Given old mid f g (rows_text word t n u)
+          → Appends mid new (row_line_text word (row_items (t u) u n)) → g ≤ h
+          → Given old new f h (rows_text word t n (u + 1))
+      rows_go_on t n u x y z = given_more old mid new f g h _ _ _ x y z (rows_more t n u)
 
-    -- a give that fails in a row leaves a front of the row
-    pub row_stops : (e : GiveError) (row : ℕ → Option V) (u v n : ℕ) → v < n
-        → Given old mid f g (items_text line (row_items row u v))
-        → GivesText (Err e) mid new g h (items_text line (item_list (u, v) (row v)))
-        → GivesText (Err e) old new f h (items_text line (row_items row u n))
-    row_stops e row u v n below x y =
-        let front : IsFront (row_items row u (v + 1)) (row_items row u n) =
-        row_front row u (v + 1) n (omega (arith, below)) in
-        let whole : row_items row u n ≡ row_items row u v ++ (item_list (u, v) (row v) ++ front.rest) =
-        front.whole ∙ ap (λ xs. xs ++ front.rest) (row_more row u v)
-        ∙ append_assoc (row_items row u v) (item_list (u, v) (row v)) front.rest in
-        given_stops e old mid new f g h _ _ _ (items_text line front.rest) x y
-        (text_three line (row_items row u v) (item_list (u, v) (row v)) front.rest (row_items row u n) whole)
-
-    pub table_goes_on : (t : ℕ → ℕ → Option V) (n u : ℕ) → Given old mid f g (items_text line (table_items t n u))
-        → Appends mid new (items_text line (row_items (t u) u n)) → g ≤ h
-        → Given old new f h (items_text line (table_items t n (u + 1)))
-    table_goes_on t n u x y z =
-        given_more old mid new f g h _ _ _ x y z
-        (ap (items_text line) (table_more t n u) ∙ text_append line (table_items t n u) (row_items (t u) u n))
-
-    -- a row that fails leaves a front of the table
-    pub table_stops : (e : GiveError) (t : ℕ → ℕ → Option V) (n u m : ℕ) → u < m
-        → Given old mid f g (items_text line (table_items t n u))
-        → GivesText (Err e) mid new g h (items_text line (row_items (t u) u n))
-        → GivesText (Err e) old new f h (items_text line (table_items t n m))
-    table_stops e t n u m below x y =
-        let front : IsFront (table_items t n (u + 1)) (table_items t n m) =
-        table_front t n (u + 1) m (omega (arith, below)) in
-        let whole : table_items t n m ≡ table_items t n u ++ (row_items (t u) u n ++ front.rest) =
-        front.whole ∙ ap (λ xs. xs ++ front.rest) (table_more t n u)
-        ∙ append_assoc (table_items t n u) (row_items (t u) u n) front.rest in
-        given_stops e old mid new f g h _ _ _ (items_text line front.rest) x y
-        (text_three line (table_items t n u) (row_items (t u) u n) front.rest (table_items t n m) whole)
+      -- a row that fails leaves a front of the rows
+      pub rows_stop : (e : GiveError) (t : ℕ → ℕ → Option V) (n u m : ℕ) → u < m
+          → Given old mid f g (rows_text word t n u)
+          → GivesText (Err e) mid new g h (row_line_text word (row_items (t u) u n))
+          → GivesText (Err e) old new f h (rows_text word t n m)
+      rows_stop e t n u m below x y =
+          let front : IsFront (rows_text word t n (u + 1)) (rows_text word t n m) =
+          rows_front t n (u + 1) m (omega (arith, below)) in
+          given_stops e old mid new f g h _ _ _ front.rest x y
+          (front.whole ∙ ap (λ xs. xs ++ front.rest) (rows_more t n u)
+          ∙ append_assoc (rows_text word t n u) (row_line_text word (row_items (t u) u n)) front.rest)
 
   -- ---- how many items there are
 
@@ -242,24 +200,25 @@ module _ (a b c : List ℕ) where
       (ap (λ r. (a ++ 10 ∷ []) ++ ((b ++ 10 ∷ []) ++ r)) (append-nil (c ++ 10 ∷ []))
       ∙ sym (append_assoc (a ++ 10 ∷ []) (b ++ 10 ∷ []) (c ++ 10 ∷ [])))
 
-module _ {V : Type 0} (word : List ℕ) (line : (ℕ × ℕ) × V → List ℕ) (items : List ((ℕ × ℕ) × V)) (k : ℕ)
-    (count : k ≡ length items) where
+module _ {V : Type 0} (name : List ℕ) (word : (ℕ × ℕ) × V → List ℕ) (t : ℕ → ℕ → Option V) (n k : ℕ)
+    (count : k ≡ length (table_items t n n)) where
   -- a table fails in the line of its count
   pub count_stops : (e : GiveError) (old new : Option (List ℕ)) (f h : ℕ)
-      → GivesText (Err e) old new f h (named word k ++ 10 ∷ [])
-      → GivesText (Err e) old new f h (table_text word line items)
+      → GivesText (Err e) old new f h (named name k ++ 10 ∷ [])
+      → GivesText (Err e) old new f h (table_text name word t n)
   count_stops e old new f h x =
-      given_stops e old old new f f h [] (named word (length items) ++ 10 ∷ []) (table_text word line items)
-      (items_text line items) (given_none old f) (numbered (Err e) old new f h word k (length items) count x) refl
+      given_stops e old old new f f h [] (named name (length (table_items t n n)) ++ 10 ∷ []) (table_text name word t n)
+      (rows_text word t n n) (given_none old f)
+      (numbered (Err e) old new f h name k (length (table_items t n n)) count x) refl
 
-  -- .. or is given up to what its items give
-  pub items_last : (r : Result (Unit {0}) GiveError) (old mid new : Option (List ℕ)) (f g h : ℕ)
-      → Appends old mid (named word k ++ 10 ∷ []) → f ≤ g → GivesText r mid new g h (items_text line items)
-      → GivesText r old new f h (table_text word line items)
-  items_last r old mid new f g h x l y =
-      given_last r old mid new f g h (named word (length items) ++ 10 ∷ []) (items_text line items)
-      (table_text word line items) (record
-      { appends = subst (λ j. Appends old mid (named word j ++ 10 ∷ [])) count x; later = l }) y refl
+  -- .. or is given up to what its rows give
+  pub rows_last : (r : Result (Unit {0}) GiveError) (old mid new : Option (List ℕ)) (f g h : ℕ)
+      → Appends old mid (named name k ++ 10 ∷ []) → f ≤ g → GivesText r mid new g h (rows_text word t n n)
+      → GivesText r old new f h (table_text name word t n)
+  rows_last r old mid new f g h x l y =
+      given_last r old mid new f g h (named name (length (table_items t n n)) ++ 10 ∷ []) (rows_text word t n n)
+      (table_text name word t n) (record
+      { appends = subst (λ j. Appends old mid (named name j ++ 10 ∷ [])) count x; later = l }) y refl
 
 -- four parts, one behind the other
 module _ (a b c d whole : List ℕ) (is : whole ≡ a ++ (b ++ (c ++ d))) where

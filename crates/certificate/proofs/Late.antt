@@ -1,15 +1,20 @@
 -- Behind the head all faults are in the fourth line or a later one: for `read_text` and `law_one_certificate`.
 use Rattle.std.specs.Prelude.{◌≡◌, ℕ, zero, suc, ◌+◌, ◌-◌, ◌*◌, ◌≤◌, ⊤, Bool, true, false, not, ◌==◌, ◌&&◌, nat_le, if◌then◌else◌, codes, List, length, Option, Some, None, Result, Ok, Err}
+use Rattle.std.specs.List.{list_all}
 use Rattle.std.specs.FinMap as map
 use Rattle.std.specs.Str.{bytes_eq}
 use Rattle.std.proofs.Common.{subst, arith}
 use Rattle.apsp_model.specs.declared.TheConstants.{MOST_VERTICES}
 use Rattle.apsp_model.specs.Graph.{pair_cmp}
-use Rattle.apsp_model.specs.Stated.{Stated}
+use Rattle.apsp_model.specs.Stated.{Stated, Entry}
 use Rattle.certificate.specs.declared.CertError.{CertError}
 use Rattle.certificate.specs.declared.CertError.TheVariants.{Shape, Order, Range, Memory}
+use Rattle.certificate.specs.declared.lines.Layout.{Layout}
+use Rattle.certificate.specs.declared.lines.Layout.TheVariants.{ByItem, ByVertex}
 use Rattle.certificate.specs.Cuts.{cut, number_behind}
-use Rattle.certificate.specs.Reading.{◌>>=◌, or_shape, Rest, Head, line_at, fixed_line, named_line, vertices_head_line, count_line, edge_in, pair_in, edge_fits, pair_fits, rises, item_line, items_onto, closing_line, table_of, head_of, body_of, stated_by}
+use Rattle.certificate.specs.Groups.{insert_all}
+use Rattle.certificate.specs.Grammar.{title}
+use Rattle.certificate.specs.Reading.{◌>>=◌, or_shape, Rest, Head, line_at, fixed_line, named_line, title_line, vertices_head_line, count_line, edge_in, pair_in, edge_in_word, pair_in_word, edge_fits, pair_fits, rises, item_line, items_onto, is_above, seconds_rise, group_in, group_line, groups_onto, edges_in, pairs_in, closing_line, table_of, head_of, body_of, stated_by}
 use Rattle.certificate.specs.Answer.{IsEarly}
 
 -- a fault is in a line from the k-th on
@@ -102,12 +107,62 @@ module _ {V : Type 0} (item_in : List ℕ → Option ((ℕ × ℕ) × V)) (fits 
       (λ e. items_onto item_in fits (map.insert m e.0.0 e.0.1) count (Some e.0.0) e.1) (item_goes k before r h)
       (λ e p. items_go k (map.insert m e.0.0 e.0.1) count (Some e.0.0) e.1 p)
 
-  table_goes : (k : ℕ) (word : List ℕ) (n : ℕ) (r : Rest) → k ≤ r.number
-      → Goes (λ (x : map.FinMap pair_cmp V × Rest). x.1) k (table_of word item_in fits n r)
-  table_goes k word n r h =
-      goes_on (λ (x : ℕ × Rest). x.1) (λ (x : map.FinMap pair_cmp V × Rest). x.1) k (count_line word (n * (n - 1)) r)
-      (λ c. items_onto item_in fits map.empty c.0 None c.1) (count_goes k word (n * (n - 1)) r h)
-      (λ c p. items_go k map.empty c.0 None c.1 p)
+module _ {V : Type 0} (item_in : ℕ → List ℕ → Option ((ℕ × ℕ) × V)) (fits : (ℕ × ℕ) × V → Bool) where
+  group_goes : (k most : ℕ) (before : Option ℕ) (r : Rest) → k ≤ r.number
+      → Goes (λ (x : (ℕ × List ((ℕ × ℕ) × V)) × Rest). x.1) k (group_line item_in fits most before r)
+  group_goes k most before r h =
+      goes_on (λ (l : List ℕ × Rest). l.1) (λ (x : (ℕ × List ((ℕ × ℕ) × V)) × Rest). x.1) k (line_at r)
+      (λ l. or_shape (group_in item_in most l.0) r.number >>= (λ g.
+      if not (list_all fits g.1) then Err (Range r.number) else
+      (if is_above before g.0 && seconds_rise None g.1 then Ok (g, l.1) else Err (Order r.number)))) (line_goes k r h)
+      (λ l p. shape_goes (λ (x : (ℕ × List ((ℕ × ℕ) × V)) × Rest). x.1) k r.number (group_in item_in most l.0) (λ g.
+      if not (list_all fits g.1) then Err (Range r.number) else
+      (if is_above before g.0 && seconds_rise None g.1 then Ok (g, l.1) else Err (Order r.number))) h
+      (λ g. at (list_all fits g.1) (is_above before g.0 && seconds_rise None g.1) g l.1 p))
+    where
+      at : (b c : Bool) (g : ℕ × List ((ℕ × ℕ) × V)) (next : Rest) → k ≤ next.number
+          → Goes (λ (x : (ℕ × List ((ℕ × ℕ) × V)) × Rest). x.1) k
+          (if not b then Err (Range r.number) else (if c then Ok (g, next) else Err (Order r.number)))
+      at true true g next p = p
+      at true false g next p = h
+      at false c g next p = h
+
+  groups_go : (k fuel : ℕ) (m : map.FinMap pair_cmp V) (left : ℕ) (before : Option ℕ) (r : Rest) → k ≤ r.number
+      → Goes (λ (x : map.FinMap pair_cmp V × Rest). x.1) k (groups_onto item_in fits fuel m left before r)
+  groups_go k zero m left before r h = h
+  groups_go k (suc fuel) m left before r h =
+      at (left == 0) (goes_on (λ (x : (ℕ × List ((ℕ × ℕ) × V)) × Rest). x.1)
+      (λ (x : map.FinMap pair_cmp V × Rest). x.1) k (group_line item_in fits left before r)
+      (λ g. groups_onto item_in fits fuel (insert_all m g.0.1) (left - length g.0.1) (Some g.0.0) g.1)
+      (group_goes k left before r h)
+      (λ g p. groups_go k fuel (insert_all m g.0.1) (left - length g.0.1) (Some g.0.0) g.1 p))
+    where
+      at : (b : Bool) → Goes (λ (x : map.FinMap pair_cmp V × Rest). x.1) k
+          (group_line item_in fits left before r >>=
+          (λ g. groups_onto item_in fits fuel (insert_all m g.0.1) (left - length g.0.1) (Some g.0.0) g.1))
+          → Goes (λ (x : map.FinMap pair_cmp V × Rest). x.1) k
+          (if b then Ok (m, r) else (group_line item_in fits left before r >>=
+          (λ g. groups_onto item_in fits fuel (insert_all m g.0.1) (left - length g.0.1) (Some g.0.0) g.1)))
+      at true g = h
+      at false g = g
+
+edges_go : (k : ℕ) (l : Layout) (n count : ℕ) (r : Rest) → k ≤ r.number
+    → Goes (λ (x : map.FinMap pair_cmp ℕ × Rest). x.1) k (edges_in l n count r)
+edges_go k ByItem n count r h = items_go edge_in (edge_fits n) k map.empty count None r h
+edges_go k ByVertex n count r h = groups_go edge_in_word (edge_fits n) k count map.empty count None r h
+
+pairs_go : (k : ℕ) (l : Layout) (n count : ℕ) (r : Rest) → k ≤ r.number
+    → Goes (λ (x : map.FinMap pair_cmp Entry × Rest). x.1) k (pairs_in l n count r)
+pairs_go k ByItem n count r h = items_go pair_in (pair_fits n) k map.empty count None r h
+pairs_go k ByVertex n count r h = groups_go pair_in_word (pair_fits n) k count map.empty count None r h
+
+table_goes : {V : Type 0} (read : ℕ → Rest → Result (map.FinMap pair_cmp V × Rest) CertError) (k : ℕ) (word : List ℕ)
+    (n : ℕ) (r : Rest) → ((count : ℕ) (r : Rest) → k ≤ r.number
+    → Goes (λ (x : map.FinMap pair_cmp V × Rest). x.1) k (read count r)) → k ≤ r.number
+    → Goes (λ (x : map.FinMap pair_cmp V × Rest). x.1) k (table_of word read n r)
+table_goes {V} read k word n r goes h =
+    goes_on (λ (x : ℕ × Rest). x.1) (λ (x : map.FinMap pair_cmp V × Rest). x.1) k (count_line word (n * (n - 1)) r)
+    (λ c. read c.0 c.1) (count_goes k word (n * (n - 1)) r h) (λ c p. goes c.0 c.1 p)
 
 fixed_goes : (k : ℕ) (text : List ℕ) (r : Rest) → k ≤ r.number → Goes (λ (x : Rest). x) k (fixed_line text r)
 fixed_goes k text r h =
@@ -133,11 +188,11 @@ end_late k r h =
 body_late : (k : ℕ) (h : Head) → k ≤ h.rest.number → Late k (body_of h)
 body_late k h l =
     late_on (λ (x : map.FinMap pair_cmp ℕ × Rest). x.1) k
-    (table_of (codes "edges") edge_in (edge_fits h.vertices) h.vertices h.rest) _
-    (table_goes edge_in (edge_fits h.vertices) k (codes "edges") h.vertices h.rest l)
+    (table_of (codes "edges") (edges_in h.layout h.vertices) h.vertices h.rest) _
+    (table_goes (edges_in h.layout h.vertices) k (codes "edges") h.vertices h.rest (edges_go k h.layout h.vertices) l)
     (λ es p. late_on (λ (x : map.FinMap pair_cmp _ × Rest). x.1) k
-    (table_of (codes "pairs") pair_in (pair_fits h.vertices) h.vertices es.1) _
-    (table_goes pair_in (pair_fits h.vertices) k (codes "pairs") h.vertices es.1 p)
+    (table_of (codes "pairs") (pairs_in h.layout h.vertices) h.vertices es.1) _
+    (table_goes (pairs_in h.layout h.vertices) k (codes "pairs") h.vertices es.1 (pairs_go k h.layout h.vertices) p)
     (λ ps q. late_end k (closing_line ps.1)
     (λ _. record { number = h.number; graph = record { vertices = h.vertices; edges = es.0 }; entries = ps.0 })
     (end_late k ps.1 q)))
@@ -167,14 +222,26 @@ vertices_goes k r h =
     at true n p = p
     at false n p = h
 
+title_goes : (k : ℕ) (r : Rest) → k ≤ r.number → Goes (λ (x : Layout × Rest). x.1) k (title_line r)
+title_goes k r h =
+    goes_on (λ (l : List ℕ × Rest). l.1) (λ (x : Layout × Rest). x.1) k (line_at r)
+    (λ l. if bytes_eq l.0 (title ByItem) then Ok (ByItem, l.1) else
+    (if bytes_eq l.0 (title ByVertex) then Ok (ByVertex, l.1) else Err (Shape r.number))) (line_goes k r h)
+    (λ l p. at (bytes_eq l.0 (title ByItem)) (bytes_eq l.0 (title ByVertex)) l.1 p)
+  where
+    at : (b c : Bool) (next : Rest) → k ≤ next.number → Goes (λ (x : Layout × Rest). x.1) k
+        (if b then Ok (ByItem, next) else (if c then Ok (ByVertex, next) else Err (Shape r.number)))
+    at true c next p = p
+    at false true next p = p
+    at false false next p = h
+
 head_goes : (k : ℕ) (r : Rest) → k ≤ r.number → Goes (λ (h : Head). h.rest) k (head_of r)
 head_goes k r h =
-    goes_on (λ (x : Rest). x) (λ (d : Head). d.rest) k (fixed_line (codes "apsp certificate 1") r) _
-    (fixed_goes k (codes "apsp certificate 1") r h)
-    (λ a p. goes_on (λ (x : ℕ × Rest). x.1) (λ (d : Head). d.rest) k (named_line (codes "number") a) _
-    (named_goes k (codes "number") a p)
+    goes_on (λ (x : Layout × Rest). x.1) (λ (d : Head). d.rest) k (title_line r) _ (title_goes k r h)
+    (λ a p. goes_on (λ (x : ℕ × Rest). x.1) (λ (d : Head). d.rest) k (named_line (codes "number") a.1) _
+    (named_goes k (codes "number") a.1 p)
     (λ c q. goes_on (λ (x : ℕ × Rest). x.1) (λ (d : Head). d.rest) k (vertices_head_line c.1)
-    (λ n. Ok (record { number = c.0; vertices = n.0; rest = n.1 })) (vertices_goes k c.1 q) (λ n u. u)))
+    (λ n. Ok (record { layout = a.0; number = c.0; vertices = n.0; rest = n.1 })) (vertices_goes k c.1 q) (λ n u. u)))
 
 -- want of memory is no fault of a text
 pub never_memory : (bytes : List ℕ) → stated_by bytes ≡ Err Memory → ⊥

@@ -1,4 +1,4 @@
--- Loops over the lines of a table: for `read_edges` and `read_pairs`.
+-- Tables, and loops over their lines in text 1: for `read_edges`, `read_pairs`, `edges_by_item` and `pairs_by_item`.
 use Rattle.std.specs.Prelude.{◌≡◌, ℕ, suc, ◌+◌, ◌-◌, ◌*◌, ◌<◌, ◌≤◌, Bool, true, codes, List, Option, Some, None, Result, Ok, Err, refl}
 use Rattle.std.specs.FinMap as map
 use Rattle.std.proofs.Common.{sym, ◌∙◌, ap, subst, arith}
@@ -7,7 +7,11 @@ use Rattle.apsp_model.specs.declared.TheConstants.{MOST_VERTICES}
 use Rattle.apsp_model.specs.Graph.{pair_cmp, no_edges}
 use Rattle.apsp_model.specs.Stated.{Stated, Entry}
 use Rattle.certificate.specs.declared.CertError.{CertError}
-use Rattle.certificate.specs.Reading.{◌>>=◌, Rest, edge_in, pair_in, edge_fits, pair_fits, count_line, item_line, items_onto, table_of}
+use Rattle.certificate.specs.declared.lines.Layout.{Layout}
+use Rattle.certificate.specs.declared.lines.Layout.TheVariants.{ByItem}
+use Rattle.certificate.specs.declared.lines.Lines.{Lines}
+use Rattle.certificate.specs.Reading.{◌>>=◌, Rest, edge_in, pair_in, edge_fits, pair_fits, count_line, item_line, items_onto, edges_in, pairs_in, table_of}
+use Rattle.certificate.specs.Answer.{rest_behind, ReadsEdges, ReadsPairs, ReadsEdgeLines, ReadsPairLines}
 use Rattle.certificate.specs.Inside.{with_stated_edge, with_pair}
 
 -- after so many of the lines the others have to be read onto the map so far
@@ -60,15 +64,39 @@ module _ {V : Type 0} (item_in : List ℕ → Option ((ℕ × ℕ) × V)) (fits 
       let none : count - done ≡ 0 = omega arith in
       sym h.left ∙ ap (λ k. items_onto item_in fits m k before rest) none
 
-  -- the table whose count was read
-  pub table_is : (word : List ℕ) (n k count : ℕ) (lines start : Rest)
-      (r : Result (map.FinMap pair_cmp V × Rest) CertError) → n ≡ k
-      → count_line word (n * (n - 1)) lines ≡ Ok (count, start) → items_onto item_in fits map.empty count None start ≡ r
-      → table_of word item_in fits k lines ≡ r
-  table_is word n k count lines start r same counted items =
-      ap (λ j. table_of word item_in fits j lines) (sym same)
-      ∙ ap (λ (o : Result (ℕ × Rest) CertError). o >>= (λ c. items_onto item_in fits map.empty c.0 None c.1)) counted
-      ∙ items
+-- the table whose count was read
+table_is : {V : Type 0} (read : ℕ → Rest → Result (map.FinMap pair_cmp V × Rest) CertError) (word : List ℕ)
+    (n k count : ℕ) (lines start : Rest) (r : Result (map.FinMap pair_cmp V × Rest) CertError) → n ≡ k
+    → count_line word (n * (n - 1)) lines ≡ Ok (count, start) → read count start ≡ r → table_of word read k lines ≡ r
+table_is read word n k count lines start r same counted items =
+    ap (λ j. table_of word read j lines) (sym same)
+    ∙ ap (λ (o : Result (ℕ × Rest) CertError). o >>= (λ c. read c.0 c.1)) counted
+    ∙ items
+
+-- what is read behind the line of the count is the table
+pub edges_table : (layout : Layout) (old new : Stated) (n count : ℕ) (lines start : Rest) (r : Result Lines CertError)
+    → n ≡ old.graph.vertices → count_line (codes "edges") (n * (n - 1)) lines ≡ Ok (count, start)
+    → ReadsEdgeLines layout count old new r start → ReadsEdges layout old new r lines
+edges_table layout old new n count lines start (Ok r) same counted h = (
+  table_is (edges_in layout old.graph.vertices) (codes "edges") n old.graph.vertices count lines start
+      (Ok (new.graph.edges, rest_behind r)) same counted h.0,
+  h.1,
+)
+edges_table layout old new n count lines start (Err e) same counted h =
+    table_is (edges_in layout old.graph.vertices) (codes "edges") n old.graph.vertices count lines start (Err e) same
+    counted h
+
+pub pairs_table : (layout : Layout) (old new : Stated) (n count : ℕ) (lines start : Rest) (r : Result Lines CertError)
+    → n ≡ old.graph.vertices → count_line (codes "pairs") (n * (n - 1)) lines ≡ Ok (count, start)
+    → ReadsPairLines layout count old new r start → ReadsPairs layout old new r lines
+pairs_table layout old new n count lines start (Ok r) same counted h = (
+  table_is (pairs_in layout old.graph.vertices) (codes "pairs") n old.graph.vertices count lines start
+      (Ok (new.entries, rest_behind r)) same counted h.0,
+  h.1,
+)
+pairs_table layout old new n count lines start (Err e) same counted h =
+    table_is (pairs_in layout old.graph.vertices) (codes "pairs") n old.graph.vertices count lines start (Err e) same
+    counted h
 
 -- a table has at most one item for each two of the most vertices
 pub most_items : (n : ℕ) → n ≤ MOST_VERTICES → n * (n - 1) ≤ MOST_VERTICES * (MOST_VERTICES - 1)
@@ -122,28 +150,21 @@ pairs_step old now next n count done before start rest behind e h below line num
     subst (λ s. PairsSoFar old s n count (done + 1) (Some e.0) start behind) (sym put) made
 
 -- a line of an edge that is at fault is the fault of the table
-pub edges_fail : (old now : Stated) (n count done : ℕ) (before : Option (ℕ × ℕ)) (lines start rest : Rest)
-    (x : CertError) → n ≡ old.graph.vertices → count_line (codes "edges") (n * (n - 1)) lines ≡ Ok (count, start)
-    → EdgesSoFar old now n count done before start rest → done < count
-    → item_line edge_in (edge_fits n) before rest ≡ Err x
-    → table_of (codes "edges") edge_in (edge_fits old.graph.vertices) old.graph.vertices lines ≡ Err x
-edges_fail old now n count done before lines start rest x same counted h below line =
-    let P : ℕ → Type 0 = λ k. table_of (codes "edges") edge_in (edge_fits k) k lines ≡ Err x in
-    subst P same (table_is edge_in (edge_fits n) (codes "edges") n n count lines start (Err x) refl counted
-    (fails edge_in (edge_fits n) now.graph.edges count done before start rest x h.items below line))
+pub edges_fail : (old now : Stated) (n count done : ℕ) (before : Option (ℕ × ℕ)) (start rest : Rest) (x : CertError)
+    → n ≡ old.graph.vertices → EdgesSoFar old now n count done before start rest → done < count
+    → item_line edge_in (edge_fits n) before rest ≡ Err x → edges_in ByItem old.graph.vertices count start ≡ Err x
+edges_fail old now n count done before start rest x same h below line =
+    let P : ℕ → Type 0 = λ k. items_onto edge_in (edge_fits k) map.empty count None start ≡ Err x in
+    subst P same (fails edge_in (edge_fits n) now.graph.edges count done before start rest x h.items below line)
 
 -- where all edges were taken, the table is what they made
-pub edges_end : (old now : Stated) (n count done : ℕ) (before : Option (ℕ × ℕ)) (lines start rest : Rest)
-    → n ≡ old.graph.vertices → count_line (codes "edges") (n * (n - 1)) lines ≡ Ok (count, start)
-    → EdgesSoFar old now n count done before start rest → count ≤ done
-    → (table_of (codes "edges") edge_in (edge_fits old.graph.vertices) old.graph.vertices lines ≡ Ok
-    (now.graph.edges, rest)) × (now ≡ record old { graph = record old.graph { edges = now.graph.edges } })
-edges_end old now n count done before lines start rest same counted h past =
-    let P : ℕ → Type 0 = λ k. table_of (codes "edges") edge_in (edge_fits k) k lines ≡ Ok (now.graph.edges, rest) in (
-      subst P same (table_is edge_in (edge_fits n) (codes "edges") n n count lines start (Ok (now.graph.edges, rest))
-          refl counted (ends edge_in (edge_fits n) now.graph.edges count done before start rest h.items past)),
-      h.same,
-    )
+pub edges_end : (old now : Stated) (n count done : ℕ) (before : Option (ℕ × ℕ)) (start rest : Rest)
+    → n ≡ old.graph.vertices → EdgesSoFar old now n count done before start rest → count ≤ done
+    → (edges_in ByItem old.graph.vertices count start ≡ Ok (now.graph.edges, rest))
+    × (now ≡ record old { graph = record old.graph { edges = now.graph.edges } })
+edges_end old now n count done before start rest same h past =
+    let P : ℕ → Type 0 = λ k. items_onto edge_in (edge_fits k) map.empty count None start ≡ Ok (now.graph.edges, rest) in
+    (subst P same (ends edge_in (edge_fits n) now.graph.edges count done before start rest h.items past), h.same)
 
 -- an edge that fits the number of vertices fits what was made so far
 pub edge_still_fits : (old now : Stated) (n count done : ℕ) (before : Option (ℕ × ℕ)) (start rest : Rest)
@@ -153,28 +174,21 @@ edge_still_fits old now n count done before start rest e same h f =
     ap (λ (s : Stated). edge_fits s.graph.vertices e) h.same ∙ ap (λ k. edge_fits k e) (sym same) ∙ f
 
 -- a line of a pair that is at fault is the fault of the table
-pub pairs_fail : (old now : Stated) (n count done : ℕ) (before : Option (ℕ × ℕ)) (lines start rest : Rest)
-    (x : CertError) → n ≡ old.graph.vertices → count_line (codes "pairs") (n * (n - 1)) lines ≡ Ok (count, start)
-    → PairsSoFar old now n count done before start rest → done < count
-    → item_line pair_in (pair_fits n) before rest ≡ Err x
-    → table_of (codes "pairs") pair_in (pair_fits old.graph.vertices) old.graph.vertices lines ≡ Err x
-pairs_fail old now n count done before lines start rest x same counted h below line =
-    let P : ℕ → Type 0 = λ k. table_of (codes "pairs") pair_in (pair_fits k) k lines ≡ Err x in
-    subst P same (table_is pair_in (pair_fits n) (codes "pairs") n n count lines start (Err x) refl counted
-    (fails pair_in (pair_fits n) now.entries count done before start rest x h.items below line))
+pub pairs_fail : (old now : Stated) (n count done : ℕ) (before : Option (ℕ × ℕ)) (start rest : Rest) (x : CertError)
+    → n ≡ old.graph.vertices → PairsSoFar old now n count done before start rest → done < count
+    → item_line pair_in (pair_fits n) before rest ≡ Err x → pairs_in ByItem old.graph.vertices count start ≡ Err x
+pairs_fail old now n count done before start rest x same h below line =
+    let P : ℕ → Type 0 = λ k. items_onto pair_in (pair_fits k) map.empty count None start ≡ Err x in
+    subst P same (fails pair_in (pair_fits n) now.entries count done before start rest x h.items below line)
 
 -- where all pairs were taken, the table is what they made
-pub pairs_end : (old now : Stated) (n count done : ℕ) (before : Option (ℕ × ℕ)) (lines start rest : Rest)
-    → n ≡ old.graph.vertices → count_line (codes "pairs") (n * (n - 1)) lines ≡ Ok (count, start)
-    → PairsSoFar old now n count done before start rest → count ≤ done
-    → (table_of (codes "pairs") pair_in (pair_fits old.graph.vertices) old.graph.vertices lines ≡ Ok
-    (now.entries, rest)) × (now ≡ record old { entries = now.entries })
-pairs_end old now n count done before lines start rest same counted h past =
-    let P : ℕ → Type 0 = λ k. table_of (codes "pairs") pair_in (pair_fits k) k lines ≡ Ok (now.entries, rest) in (
-      subst P same (table_is pair_in (pair_fits n) (codes "pairs") n n count lines start (Ok (now.entries, rest)) refl
-          counted (ends pair_in (pair_fits n) now.entries count done before start rest h.items past)),
-      h.same,
-    )
+pub pairs_end : (old now : Stated) (n count done : ℕ) (before : Option (ℕ × ℕ)) (start rest : Rest)
+    → n ≡ old.graph.vertices → PairsSoFar old now n count done before start rest → count ≤ done
+    → (pairs_in ByItem old.graph.vertices count start ≡ Ok (now.entries, rest))
+    × (now ≡ record old { entries = now.entries })
+pairs_end old now n count done before start rest same h past =
+    let P : ℕ → Type 0 = λ k. items_onto pair_in (pair_fits k) map.empty count None start ≡ Ok (now.entries, rest) in
+    (subst P same (ends pair_in (pair_fits n) now.entries count done before start rest h.items past), h.same)
 
 -- an entry that fits the number of vertices fits what was made so far
 pub pair_still_fits : (old now : Stated) (n count done : ℕ) (before : Option (ℕ × ℕ)) (start rest : Rest)

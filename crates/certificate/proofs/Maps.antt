@@ -12,7 +12,7 @@ use Rattle.std.proofs.lemmas.Bool.Decides.{nat_tests}
 use Rattle.std.proofs.lemmas.List.{append-nil}
 use Rattle.apsp_model.specs.Graph.{pair_cmp}
 use Rattle.apsp_model.proofs.Stars.{pairs_total, exact_pair}
-use Rattle.certificate.specs.Table.{insert_all}
+use Rattle.certificate.specs.Groups.{insert_all}
 use Rattle.certificate.specs.Reading.{rises}
 use Rattle.certificate.proofs.Spellings.{some_same}
 

@@ -1,5 +1,5 @@
 -- A line and the numbers in it, from the text to the numbers and back: for `named_line`, and for `Forms` and `Texts`.
-use Rattle.std.specs.Prelude.{◌≡◌, ℕ, zero, suc, ◌+◌, ◌<◌, ◌^◌, ⊤, Bool, true, false, if◌then◌else◌, List, [], ◌∷◌, ◌++◌, length, Option, Some, None, Result, Ok, Err, refl}
+use Rattle.std.specs.Prelude.{◌≡◌, ℕ, zero, suc, ◌+◌, ◌<◌, ◌^◌, ⊤, Bool, true, false, not, ◌==◌, ◌&&◌, if◌then◌else◌, List, [], ◌∷◌, ◌++◌, length, Option, Some, None, Result, Ok, Err, refl}
 use Rattle.std.specs.Fmt.{decimal}
 use Rattle.std.specs.Str.{bytes_eq}
 use Rattle.std.proofs.Common.{◌∙◌, ap, subst, arith}
@@ -8,11 +8,11 @@ use Rattle.certificate.specs.declared.CertError.{CertError}
 use Rattle.certificate.specs.declared.CertError.TheVariants.{Shape}
 use Rattle.numerals.specs.Numbers.{number_of}
 use Rattle.certificate.specs.declared.TheConstants.{MOST_DIGITS}
-use Rattle.certificate.specs.Cuts.{cut, ◌and_then◌, number_before, number_behind, numbers_in}
-use Rattle.certificate.specs.Grammar.{spaced, named}
+use Rattle.certificate.specs.Cuts.{cut, ◌and_then◌, number_before, number_behind, numbers_by}
+use Rattle.certificate.specs.Grammar.{parted, named}
 use Rattle.certificate.specs.Reading.{◌>>=◌, or_shape, Rest, line_at, fixed_line, named_line}
 use Rattle.certificate.proofs.Digits.{IsSpelled, spelled, word_of, read_again}
-use Rattle.certificate.proofs.Cutting.{avoids, IsCutAt, cut_parts, cut_again, avoids-append, digits_avoid}
+use Rattle.certificate.proofs.Cutting.{avoids, IsCutAt, cut_parts, cut_again, avoids-append, IsNoDigit, newline_apart, digits_avoid}
 
 -- ---- options and results
 
@@ -73,78 +73,82 @@ abbrev pub AreSmall : List ℕ → Type 0
 AreSmall [] = ⊤
 AreSmall (k ∷ ks) = (k < 10 ^ 18) × AreSmall ks
 
-word_avoids : (c k : ℕ) → c < 48 → k < 10 ^ 18 → avoids c (decimal k) ≡ true
-word_avoids c k low small = digits_avoid c (decimal k) low (word_of k small).digits
+-- a spelling has digits alone
+pub word_avoids : (c k : ℕ) → IsNoDigit c → k < 10 ^ 18 → avoids c (decimal k) ≡ true
+word_avoids c k apart small = digits_avoid c (decimal k) apart (word_of k small).digits
 
-number_before_again : (k : ℕ) (rest : List ℕ) → k < 10 ^ 18 → number_before 32 (decimal k ++ 32 ∷ rest) ≡ Some (k, rest)
-number_before_again k rest small =
+pub number_before_again : (c k : ℕ) (rest : List ℕ) → IsNoDigit c → k < 10 ^ 18
+    → number_before c (decimal k ++ c ∷ rest) ≡ Some (k, rest)
+number_before_again c k rest apart small =
     ap (λ o. o and_then (λ p. number_of MOST_DIGITS p.0 and_then (λ j. Some (j, p.1))))
-    (cut_again 32 (decimal k) rest (word_avoids 32 k (omega arith) small))
+    (cut_again c (decimal k) rest (word_avoids c k apart small))
     ∙ ap (λ o. o and_then (λ j. Some (j, rest))) (read_again k small)
 
-pub record IsSpelledBefore (s rest : List ℕ) (k : ℕ) : Type 0 where
-  pub whole : s ≡ decimal k ++ 32 ∷ rest
+pub record IsSpelledBefore (c : ℕ) (s rest : List ℕ) (k : ℕ) : Type 0 where
+  pub whole : s ≡ decimal k ++ c ∷ rest
   pub small : k < 10 ^ 18
 
-number_before_parts : (s : List ℕ) (a : ℕ × List ℕ) → number_before 32 s ≡ Some a → IsSpelledBefore s a.1 a.0
-number_before_parts s a e =
-    let outer = joint (cut 32 s) (λ p. number_of MOST_DIGITS p.0 and_then (λ k. Some (k, p.1))) a e in
+pub number_before_parts : (c : ℕ) (s : List ℕ) (a : ℕ × List ℕ) → number_before c s ≡ Some a
+    → IsSpelledBefore c s a.1 a.0
+number_before_parts c s a e =
+    let outer = joint (cut c s) (λ p. number_of MOST_DIGITS p.0 and_then (λ k. Some (k, p.1))) a e in
     let inner = joint (number_of MOST_DIGITS outer.value.0) (λ k. Some (k, outer.value.1)) a outer.second in
-    let place : IsCutAt 32 s outer.value.0 outer.value.1 = cut_parts 32 s outer.value.0 outer.value.1 outer.first in
+    let place : IsCutAt c s outer.value.0 outer.value.1 = cut_parts c s outer.value.0 outer.value.1 outer.first in
     let word : IsSpelled outer.value.0 inner.value = spelled outer.value.0 inner.value inner.first in
     let same : ◌≡◌ {A = ℕ × List ℕ} (inner.value, outer.value.1) a =
     some_same (inner.value, outer.value.1) a inner.second in
-    let made : IsSpelledBefore s outer.value.1 inner.value =
-    record { whole = place.whole ∙ ap (λ w. w ++ 32 ∷ outer.value.1) word.word; small = word.small } in
-    let P : ℕ × List ℕ → Type 0 = λ b. IsSpelledBefore s b.1 b.0 in
+    let made : IsSpelledBefore c s outer.value.1 inner.value =
+    record { whole = place.whole ∙ ap (λ w. w ++ c ∷ outer.value.1) word.word; small = word.small } in
+    let P : ℕ × List ℕ → Type 0 = λ b. IsSpelledBefore c s b.1 b.0 in
     subst P same made
 
--- s is the spelling of the n numbers ks, with spaces between them
-pub record AreNumbers (n : ℕ) (s ks : List ℕ) : Type 0 where
-  pub text : s ≡ spaced ks
+-- s is the spelling of the n numbers ks, with the byte c between them
+pub record AreNumbers (c n : ℕ) (s ks : List ℕ) : Type 0 where
+  pub text : s ≡ parted c ks
   pub count : length ks ≡ n
   pub small : AreSmall ks
 
 -- a line from which n numbers are read is their spelling
-pub numbers_parts : (n : ℕ) (s ks : List ℕ) → numbers_in (suc n) s ≡ Some ks → AreNumbers (suc n) s ks
-numbers_parts zero s ks e =
+pub numbers_parts : (c n : ℕ) (s ks : List ℕ) → numbers_by c (suc n) s ≡ Some ks → AreNumbers c (suc n) s ks
+numbers_parts c zero s ks e =
     let j = joint (number_of MOST_DIGITS s) (λ k. Some (k ∷ [])) ks e in
     let word : IsSpelled s j.value = spelled s j.value j.first in
-    let made : AreNumbers 1 s (j.value ∷ []) = record { text = word.word; count = refl; small = (word.small, tt) } in
-    subst (AreNumbers 1 s) (some_same (j.value ∷ []) ks j.second) made
-numbers_parts (suc n) s ks e =
-    let a = joint (number_before 32 s) (λ a. numbers_in (suc n) a.1 and_then (λ ls. Some (a.0 ∷ ls))) ks e in
-    let b = joint (numbers_in (suc n) a.value.1) (λ ls. Some (a.value.0 ∷ ls)) ks a.second in
-    let here : IsSpelledBefore s a.value.1 a.value.0 = number_before_parts s a.value a.first in
-    let later : AreNumbers (suc n) a.value.1 b.value = numbers_parts n a.value.1 b.value b.first in
-    subst (AreNumbers (suc (suc n)) s) (some_same (a.value.0 ∷ b.value) ks b.second)
+    let made : AreNumbers c 1 s (j.value ∷ []) = record { text = word.word; count = refl; small = (word.small, tt) } in
+    subst (AreNumbers c 1 s) (some_same (j.value ∷ []) ks j.second) made
+numbers_parts c (suc n) s ks e =
+    let a = joint (number_before c s) (λ a. numbers_by c (suc n) a.1 and_then (λ ls. Some (a.0 ∷ ls))) ks e in
+    let b = joint (numbers_by c (suc n) a.value.1) (λ ls. Some (a.value.0 ∷ ls)) ks a.second in
+    let here : IsSpelledBefore c s a.value.1 a.value.0 = number_before_parts c s a.value a.first in
+    let later : AreNumbers c (suc n) a.value.1 b.value = numbers_parts c n a.value.1 b.value b.first in
+    subst (AreNumbers c (suc (suc n)) s) (some_same (a.value.0 ∷ b.value) ks b.second)
     (made s a.value.1 a.value.0 b.value n here later)
   where
-    made : (s rest : List ℕ) (k : ℕ) (ls : List ℕ) (n : ℕ) → IsSpelledBefore s rest k → AreNumbers (suc n) rest ls
-        → AreNumbers (suc (suc n)) s (k ∷ ls)
+    made : (s rest : List ℕ) (k : ℕ) (ls : List ℕ) (n : ℕ) → IsSpelledBefore c s rest k → AreNumbers c (suc n) rest ls
+        → AreNumbers c (suc (suc n)) s (k ∷ ls)
     made s rest k [] n here later = absurd (omega (arith, later.count))
     made s rest k (l ∷ ls) n here later = record {
-      text = here.whole ∙ ap (λ r. decimal k ++ 32 ∷ r) later.text;
+      text = here.whole ∙ ap (λ r. decimal k ++ c ∷ r) later.text;
       count = ap (λ m. suc m) later.count;
       small = (here.small, later.small);
     }
 
 -- .. and from their spelling they are read
-pub numbers_again : (k : ℕ) (ks : List ℕ) → AreSmall (k ∷ ks)
-    → numbers_in (suc (length ks)) (spaced (k ∷ ks)) ≡ Some (k ∷ ks)
-numbers_again k [] small = ap (λ o. o and_then (λ j. Some (j ∷ []))) (read_again k small.0)
-numbers_again k (l ∷ ks) small =
-    ap (λ o. o and_then (λ a. numbers_in (suc (length ks)) a.1 and_then (λ ls. Some (a.0 ∷ ls))))
-    (number_before_again k (spaced (l ∷ ks)) small.0)
-    ∙ ap (λ o. o and_then (λ ls. Some (k ∷ ls))) (numbers_again l ks small.1)
+pub numbers_again : (c k : ℕ) (ks : List ℕ) → IsNoDigit c → AreSmall (k ∷ ks)
+    → numbers_by c (suc (length ks)) (parted c (k ∷ ks)) ≡ Some (k ∷ ks)
+numbers_again c k [] apart small = ap (λ o. o and_then (λ j. Some (j ∷ []))) (read_again k small.0)
+numbers_again c k (l ∷ ks) apart small =
+    ap (λ o. o and_then (λ a. numbers_by c (suc (length ks)) a.1 and_then (λ ls. Some (a.0 ∷ ls))))
+    (number_before_again c k (parted c (l ∷ ks)) apart small.0)
+    ∙ ap (λ o. o and_then (λ ls. Some (k ∷ ls))) (numbers_again c l ks apart small.1)
 
--- the spelling of numbers has no newline
-pub spaced_avoids : (ks : List ℕ) → AreSmall ks → avoids 10 (spaced ks) ≡ true
-spaced_avoids [] small = refl
-spaced_avoids (k ∷ []) small = word_avoids 10 k (omega arith) small.0
-spaced_avoids (k ∷ l ∷ ks) small =
-    avoids-append 10 (decimal k) (32 ∷ spaced (l ∷ ks)) (word_avoids 10 k (omega arith) small.0)
-    (spaced_avoids (l ∷ ks) small.1)
+-- the spelling of numbers has no other byte than digits and the one between them
+pub parted_avoids : (b c : ℕ) (ks : List ℕ) → IsNoDigit b → (c == b) ≡ false → AreSmall ks
+    → avoids b (parted c ks) ≡ true
+parted_avoids b c [] apart other small = refl
+parted_avoids b c (k ∷ []) apart other small = word_avoids b k apart small.0
+parted_avoids b c (k ∷ l ∷ ks) apart other small =
+    avoids-append b (decimal k) (c ∷ parted c (l ∷ ks)) (word_avoids b k apart small.0)
+    (ap (λ t. not t && avoids b (parted c (l ∷ ks))) other ∙ parted_avoids b c (l ∷ ks) apart other small.1)
 
 -- ---- a word and a number
 
@@ -180,7 +184,7 @@ named_again word k clean small =
     ∙ read_again k small
 
 pub named_avoids : (word : List ℕ) (k : ℕ) → avoids 10 word ≡ true → k < 10 ^ 18 → avoids 10 (named word k) ≡ true
-named_avoids word k clean small = avoids-append 10 word (32 ∷ decimal k) clean (word_avoids 10 k (omega arith) small)
+named_avoids word k clean small = avoids-append 10 word (32 ∷ decimal k) clean (word_avoids 10 k newline_apart small)
 
 -- ---- lines
 

@@ -1,11 +1,11 @@
 -- What a version states is one value, which is lawful and can be written: for `law_version`.
-use Rattle.std.specs.Prelude.{◌≡◌, ◌≢◌, ℕ, ◌<◌, ◌≤◌, ◌^◌, if◌then◌else◌, List, [], ◌∷◌, length, Option, Some, None, IsSome, IsSomeAnd, MatchOption, unwrap_or, refl}
+use Rattle.std.specs.Prelude.{◌≡◌, ◌≢◌, ℕ, ◌<◌, ◌≤◌, ◌^◌, if◌then◌else◌, List, [], ◌∷◌, length, Option, Some, None, IsSome, IsSomeAnd, MatchOption, refl}
 use Rattle.std.specs.FinMap as map
 use Rattle.std.proofs.Common.{sym, ◌∙◌, ap, subst, inl, inr, arith}
 use Rattle.std.proofs.lemmas.Bool.{ne_eqb, cases_eq}
 use Rattle.std.proofs.lemmas.Nat.{mul-le}
 use Rattle.apsp_model.specs.declared.TheConstants.{MOST_VERTICES, MOST_WEIGHT}
-use Rattle.apsp_model.specs.Graph.{Graph, IsGraph, HasEdge, edge_weight, weight_at}
+use Rattle.apsp_model.specs.Graph.{Graph, IsGraph, weight_at}
 use Rattle.apsp_model.specs.Walk.{weight_of, hops_of}
 use Rattle.apsp_model.specs.Least.{IsLeast, HasNoWalk}
 use Rattle.apsp_model.specs.Stated.{Stated, Entry, entry_at, IsEntryOf, FollowsNext, IsLawfulEntry, IsLawful}

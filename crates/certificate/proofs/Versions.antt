@@ -1,5 +1,5 @@
 -- What a version states: for `write_certificate` and `law_version`.
-use Rattle.std.specs.Prelude.{◌≡◌, ◌≢◌, ℕ, ◌<◌, ◌≤◌, ◌==◌, if◌then◌else◌, codes, List, [], ◌∷◌, ◌++◌, map as each, length, Option, Some, None, refl}
+use Rattle.std.specs.Prelude.{◌≡◌, ◌≢◌, ℕ, ◌<◌, ◌≤◌, ◌==◌, if◌then◌else◌, codes, List, [], ◌∷◌, ◌++◌, length, Option, Some, None, refl}
 use Rattle.std.specs.FinMap as map
 use Rattle.std.proofs.Common.{sym, ◌∙◌, ap, subst, inl, inr, arith}
 use Rattle.std.proofs.lemmas.Bool.{eq-eqb, ne_eqb}
@@ -16,12 +16,14 @@ use Rattle.apsp_model.proofs.Stars.{pairs_total, exact_pair}
 use Rattle.version_face.specs.declared.TheConstants.{NO_DISTANCE}
 use Rattle.version_face.specs.Seen.{VersionSeen, DistIs, HopsIs, NextIs}
 use Rattle.version_face.specs.Entries.{second_of, dist_in, hops_in, next_in}
-use Rattle.certificate.specs.Table.{table_map}
-use Rattle.certificate.specs.Grammar.{named, edge_line_text, pair_line_text, head_lines, pair_lines, joined, text_of}
+use Rattle.certificate.specs.declared.lines.Layout.TheVariants.{ByVertex}
+use Rattle.certificate.specs.Table.{table_items, table_map}
+use Rattle.certificate.specs.Grammar.{named, edge_line_text, pair_line_text, edge_word_text, pair_word_text, lines_in, head_lines, pair_lines, joined, text_of}
 use Rattle.certificate.specs.Giving.{StatedEntryIs, IsStatedOf}
-use Rattle.certificate.specs.Writing.{table_text, edge_items, pair_items, IsEntryTable}
+use Rattle.certificate.specs.Writing.{table_text, IsEntryTable}
 use Rattle.certificate.proofs.Tables.{entries-map_of, get_inside, get_outside, cases_inside}
 use Rattle.certificate.proofs.Texts.{text_blocks}
+use Rattle.certificate.proofs.Rows.{rows_are}
 
 -- ---- a cell of the rows, and the entry of the pair
 
@@ -111,10 +113,10 @@ pub record IsStatedText (v : VersionSeen) : Type 0 where
   pub is : IsStatedOf v stated
   pub table : ℕ → ℕ → Option Entry
   pub entries : IsEntryTable v.graph table
-  pub text : text_of stated ≡ joined (codes "apsp certificate 1" ∷ named (codes "number") v.number ∷ named
+  pub text : text_of stated ≡ joined (codes "apsp certificate 2" ∷ named (codes "number") v.number ∷ named
       (codes "vertices") v.graph.vertices ∷ [])
-      ++ (table_text (codes "edges") edge_line_text (edge_items v.graph)
-      ++ (table_text (codes "pairs") pair_line_text (pair_items v.graph table) ++ (codes "end" ++ 10 ∷ [])))
+      ++ (table_text (codes "edges") edge_word_text (weight_at v.graph) v.graph.vertices
+      ++ (table_text (codes "pairs") pair_word_text table v.graph.vertices ++ (codes "end" ++ 10 ∷ [])))
 
 none_or_some : {V : Type 0} (o : Option V) (P : Type 0) → (o ≡ None → P) → ((w : V) → o ≡ Some w → P) → P
 none_or_some None P a b = a refl
@@ -130,12 +132,13 @@ edges_are g graph =
           (λ w e. absurd (o (graph.edges q.0 q.1 w e).from (graph.edges q.0 q.1 w e).to))
     ])
 
-table_lines : {V : Type 0} (word : List ℕ) (line : (ℕ × ℕ) × V → List ℕ) (m : map.FinMap pair_cmp V)
-    (items : List ((ℕ × ℕ) × V)) → map.entries m ≡ items
-    → joined (named word (map.len m) ∷ each line (map.entries m)) ≡ table_text word line items
-table_lines word line m items e =
-    ap (λ k. joined (named word k ∷ each line (map.entries m))) (map.len-entries m)
-    ∙ ap (λ es. joined (named word (length es) ∷ each line es)) e
+table_lines : {V : Type 0} (name : List ℕ) (line word : (ℕ × ℕ) × V → List ℕ) (m : map.FinMap pair_cmp V)
+    (f : ℕ → ℕ → Option V) (n : ℕ) → map.entries m ≡ table_items f n n
+    → joined (named name (map.len m) ∷ lines_in ByVertex line word (map.entries m)) ≡ table_text name word f n
+table_lines name line word m f n e =
+    ap (λ k. joined (named name k ∷ lines_in ByVertex line word (map.entries m))) (map.len-entries m)
+    ∙ ap (λ es. joined (named name (length es) ∷ lines_in ByVertex line word es)) e
+    ∙ ap (λ t. (named name (length (table_items f n n)) ++ 10 ∷ []) ++ t) (rows_are word f n n)
 
 -- what a version states
 abbrev pub value_of : VersionSeen → Stated
@@ -177,12 +180,12 @@ stated_text v graph =
       is = value_is v;
       table = f;
       entries = table_is g;
-      text = text_blocks s ∙ ap (λ r. joined (head_lines s)
-          ++ (r ++ (joined (pair_lines s) ++ (codes "end" ++ 10 ∷ []))))
-          (table_lines (codes "edges") edge_line_text g.edges (edge_items g)
+      text = text_blocks ByVertex s ∙ ap (λ r. joined (head_lines ByVertex s)
+          ++ (r ++ (joined (pair_lines ByVertex s) ++ (codes "end" ++ 10 ∷ []))))
+          (table_lines (codes "edges") edge_line_text edge_word_text g.edges (weight_at g) g.vertices
           (ap map.entries (sym (edges_are g graph)) ∙ entries-map_of g.vertices (weight_at g)))
-          ∙ ap (λ r. joined (head_lines s)
-          ++ (table_text (codes "edges") edge_line_text (edge_items g) ++ (r ++ (codes "end" ++ 10 ∷ []))))
-          (table_lines (codes "pairs") pair_line_text (table_map g.vertices f) (pair_items g f)
+          ∙ ap (λ r. joined (head_lines ByVertex s)
+          ++ (table_text (codes "edges") edge_word_text (weight_at g) g.vertices ++ (r ++ (codes "end" ++ 10 ∷ []))))
+          (table_lines (codes "pairs") pair_line_text pair_word_text (table_map g.vertices f) f g.vertices
           (entries-map_of g.vertices f));
     }

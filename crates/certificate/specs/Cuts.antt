@@ -27,9 +27,17 @@ number_before c s = cut c s and_then (λ p. number_of MOST_DIGITS p.0 and_then (
 abbrev pub number_behind : List ℕ → List ℕ → Option ℕ
 number_behind word s = cut 32 s and_then (λ p. if bytes_eq p.0 word then number_of MOST_DIGITS p.1 else None)
 
--- so many numbers with one space between each two
-abbrev pub numbers_in : ℕ → List ℕ → Option (List ℕ)
-numbers_in zero s = None
-numbers_in (suc zero) s = number_of MOST_DIGITS s and_then (λ k. Some (k ∷ []))
-numbers_in (suc (suc n)) s =
-    number_before 32 s and_then (λ a. numbers_in (suc n) a.1 and_then (λ ks. Some (a.0 ∷ ks)))
+-- so many numbers with one such byte between each two
+abbrev pub numbers_by : ℕ → ℕ → List ℕ → Option (List ℕ)
+numbers_by c zero s = None
+numbers_by c (suc zero) s = number_of MOST_DIGITS s and_then (λ k. Some (k ∷ []))
+numbers_by c (suc (suc n)) s =
+    number_before c s and_then (λ a. numbers_by c (suc n) a.1 and_then (λ ks. Some (a.0 ∷ ks)))
+
+-- the first word, and what stands behind the space that ends it, if there is one
+abbrev pub word_or_all : List ℕ → Option (List ℕ × List ℕ) → List ℕ × Option (List ℕ)
+word_or_all s None = (s, None)
+word_or_all s (Some p) = (p.0, Some p.1)
+
+abbrev pub first_word : List ℕ → List ℕ × Option (List ℕ)
+first_word s = word_or_all s (cut 32 s)

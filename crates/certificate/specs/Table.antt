@@ -2,6 +2,7 @@
 use Rattle.std.specs.Prelude.{ℕ, zero, suc, List, [], ◌∷◌, ◌++◌, slice_index_or, Option, Some, None}
 use Rattle.std.specs.FinMap as map
 use Rattle.apsp_model.specs.Graph.{pair_cmp}
+use Rattle.certificate.specs.Groups.{insert_all}
 
 abbrev pub item_list : {V : Type 0} → ℕ × ℕ → Option V → List ((ℕ × ℕ) × V)
 item_list q None = []
@@ -16,11 +17,6 @@ row_items row u (suc v) = row_items row u v ++ item_list (u, v) (row v)
 abbrev pub table_items : {V : Type 0} → (ℕ → ℕ → Option V) → ℕ → ℕ → List ((ℕ × ℕ) × V)
 table_items f n zero = []
 table_items f n (suc u) = table_items f n u ++ row_items (f u) u n
-
--- the items put into a map, one after the other
-abbrev pub insert_all : {V : Type 0} → map.FinMap pair_cmp V → List ((ℕ × ℕ) × V) → map.FinMap pair_cmp V
-insert_all m [] = m
-insert_all m (e ∷ es) = insert_all (map.insert m e.0 e.1) es
 
 unfoldable pub table_map : {V : Type 0} → ℕ → (ℕ → ℕ → Option V) → map.FinMap pair_cmp V
 table_map n f = insert_all map.empty (table_items f n n)

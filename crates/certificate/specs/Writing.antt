@@ -1,18 +1,24 @@
 -- The tables of a version, as their text. No public clause cites this module.
-use Rattle.std.specs.Prelude.{◌≡◌, ◌≢◌, ℕ, ◌<◌, List, ◌∷◌, map as each, length, Option, None}
+use Rattle.std.specs.Prelude.{◌≡◌, ◌≢◌, ℕ, zero, suc, ◌<◌, List, [], ◌∷◌, ◌++◌, length, Option, None}
 use Rattle.apsp_model.specs.Graph.{Graph, weight_at}
 use Rattle.apsp_model.specs.Stated.{Entry}
 use Rattle.certificate.specs.Table.{row_items, table_items}
-use Rattle.certificate.specs.Grammar.{named, joined}
+use Rattle.certificate.specs.Grammar.{named, group_text}
 use Rattle.certificate.specs.Giving.{StatedEntryIs}
 
--- the lines of items
-abbrev pub items_text : {V : Type 0} → ((ℕ × ℕ) × V → List ℕ) → List ((ℕ × ℕ) × V) → List ℕ
-items_text line items = joined (each line items)
+-- the line of the items of a row with its newline, and nothing where there are none
+abbrev pub row_line_text : {V : Type 0} → ((ℕ × ℕ) × V → List ℕ) → List ((ℕ × ℕ) × V) → List ℕ
+row_line_text word [] = []
+row_line_text word (e ∷ es) = group_text word (e ∷ es) ++ 10 ∷ []
 
--- a line with their number, and their lines
-abbrev pub table_text : {V : Type 0} → List ℕ → ((ℕ × ℕ) × V → List ℕ) → List ((ℕ × ℕ) × V) → List ℕ
-table_text word line items = joined (named word (length items) ∷ each line items)
+-- the lines of the rows below u
+abbrev pub rows_text : {V : Type 0} → ((ℕ × ℕ) × V → List ℕ) → (ℕ → ℕ → Option V) → ℕ → ℕ → List ℕ
+rows_text word f n zero = []
+rows_text word f n (suc u) = rows_text word f n u ++ row_line_text word (row_items (f u) u n)
+
+-- a line with the number of all items, and the lines of the rows
+abbrev pub table_text : {V : Type 0} → List ℕ → ((ℕ × ℕ) × V → List ℕ) → (ℕ → ℕ → Option V) → ℕ → List ℕ
+table_text name word f n = (named name (length (table_items f n n)) ++ 10 ∷ []) ++ rows_text word f n n
 
 -- the edges from u, and all edges, in order
 abbrev pub row_edges : Graph → ℕ → List ((ℕ × ℕ) × ℕ)

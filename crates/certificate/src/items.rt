@@ -41,7 +41,7 @@ pub fn edge_line<'a>(
     ensures fits { IfOk result (λ x. IsTrue (edge_fits n (edge_item x.0))) }
 {
     let (line, rest) = line_at(lines)?;
-    let Some(numbers) = three_numbers(line) else {
+    let Some(numbers) = three_numbers(b' ', line) else {
         return Err(CertError::Shape(lines.number));
     };
     let Some(edge) = edge_within(n, numbers) else {
@@ -69,7 +69,7 @@ pub fn pair_line<'a>(
     ensures digits { IfOk result (λ x. x.0.entry.dist < 10 ^ MOST_DIGITS) }
 {
     let (line, rest) = line_at(lines)?;
-    let Some(numbers) = five_numbers(line) else {
+    let Some(numbers) = five_numbers(b' ', line) else {
         return Err(CertError::Shape(lines.number));
     };
     let Some(pair) = pair_within(n, numbers) else {
@@ -83,7 +83,7 @@ pub fn pair_line<'a>(
 }
 
 /// The edge, if all its numbers are in range: its ends and its weight.
-fn edge_within(n: u32, numbers: [u64; 3]) -> Option<Edge>
+pub fn edge_within(n: u32, numbers: [u64; 3]) -> Option<Edge>
     ensures { IsEdgeWithin n numbers result }
 {
     let [from, to, weight] = numbers;
@@ -98,7 +98,7 @@ fn edge_within(n: u32, numbers: [u64; 3]) -> Option<Edge>
 }
 
 /// The entry, if all its numbers are in range: the pair, the distance, the hops and the next vertex.
-fn pair_within(n: u32, numbers: [u64; 5]) -> Option<Pair>
+pub fn pair_within(n: u32, numbers: [u64; 5]) -> Option<Pair>
     requires { IsVertexCount n }
     ensures { IsPairWithin n numbers result }
 {

@@ -4,16 +4,17 @@ ghost use Rattle.std.specs.Prelude.{◌≡◌, ◌<◌, ◌^◌, ◌↔◌, ℕ,
 ghost use Rattle.apsp_model.specs.Graph.{IsGraph};
 ghost use Rattle.apsp_model.specs.Stated.{Stated, IsLawful};
 ghost use Rattle.version_face.specs.Seen.{VersionSeen};
-ghost use Rattle.certificate.specs.Grammar.{IsCertText, IsWritable};
+ghost use Rattle.certificate.specs.Grammar.{IsCertText, IsWritable, first_line};
 ghost use Rattle.certificate.specs.Giving.{IsStatedOf};
 ghost use Rattle.certificate.specs.Reading.{stated_by};
 
 use crate::{CertError, MOST_DIGITS};
 
-/// A stated value has one text, and a text states one value. What is read of a text is the value that it
+/// A stated value has one text with the same first line, and a text states one value. What is read of a text is the value that it
 /// states, and where it states none the fault is one of a line.
 pub fn law_one_certificate()
-    ensures text { (s : Stated) (a b : List ℕ) → IsCertText s a → IsCertText s b → a ≡ b }
+    ensures text { (s : Stated) (a b : List ℕ) → IsCertText s a → IsCertText s b
+        → first_line a ≡ first_line b → a ≡ b }
     ensures stated { (s t : Stated) (a : List ℕ) → IsCertText s a → IsCertText t a → s ≡ t }
     ensures read { (s : Stated) (a : List ℕ) → IsCertText s a ↔ (stated_by a ≡ Ok s) }
     ensures fault { (a : List ℕ) → stated_by a ≡ Err CertError.Memory → ⊥ }

@@ -1,7 +1,7 @@
 //! The lines of a certificate that are no items.
 ghost use Rattle.std.specs.Prelude.{◌≡◌, ◌+◌, ◌-◌, ◌*◌, ◌<◌, ◌≤◌, ◌^◌, IfOk, codes};
 ghost use Rattle.graph_store.specs.Making.{IsVertexCount};
-ghost use Rattle.certificate.specs.Reading.{line_at, fixed_line, named_line, vertices_head_line, count_line, head_of, closing_line};
+ghost use Rattle.certificate.specs.Reading.{line_at, fixed_line, named_line, title_line, vertices_head_line, count_line, head_of, closing_line};
 ghost use Rattle.certificate.specs.Answer.{rest_behind, Gives};
 
 use crate::cuts::{cut, number_behind};
@@ -15,9 +15,19 @@ pub struct Lines<'a> {
     pub number: u32,
 }
 
-/// The number and the number of vertices, and the lines behind them.
+/// How the items of a certificate stand in its lines.
+#[derive(Clone, Copy, Debug)]
+pub enum Layout {
+    /// Text 1: each item has a line.
+    ByItem,
+    /// Text 2: the items of one vertex have a line.
+    ByVertex,
+}
+
+/// The layout, the number and the number of vertices, and the lines behind them.
 #[derive(Clone, Copy, Debug)]
 pub struct Head<'a> {
+    pub layout: Layout,
     pub number: u64,
     pub vertices: u32,
     pub rest: Lines<'a>,
@@ -69,6 +79,24 @@ fn named_line<'a>(word: &[u8], lines: Lines<'a>) -> Result<(u64, Lines<'a>), Cer
     }
 }
 
+/// The first line, which names the layout.
+fn title_line(lines: Lines<'_>) -> Result<(Layout, Lines<'_>), CertError>
+    requires { lines.number + 1 < 2 ^ 32 }
+    ensures line { Gives (λ x. (x.0, rest_behind x.1)) result (title_line (rest_behind lines.entry)) }
+    ensures number { IfOk result (λ x. x.1.number ≡ lines.entry.number + 1) }
+{
+    let by_item: &[u8] = b"apsp certificate 1";
+    let by_vertex: &[u8] = b"apsp certificate 2";
+    let (line, rest) = line_at(lines)?;
+    if line == by_item {
+        Ok((Layout::ByItem, rest))
+    } else if line == by_vertex {
+        Ok((Layout::ByVertex, rest))
+    } else {
+        Err(CertError::Shape(lines.number))
+    }
+}
+
 fn vertices_line(lines: Lines<'_>) -> Result<(u32, Lines<'_>), CertError>
     requires { lines.number + 1 < 2 ^ 32 }
     ensures line { Gives (λ x. (x.0, rest_behind x.1)) result (vertices_head_line (rest_behind lines.entry)) }
@@ -82,7 +110,7 @@ fn vertices_line(lines: Lines<'_>) -> Result<(u32, Lines<'_>), CertError>
     Ok((n as u32, rest))
 }
 
-/// A number of lines to come, which is at most so many.
+/// A number of items to come, which is at most so many.
 pub fn count_line<'a>(
     word: &[u8],
     most: u32,
@@ -103,16 +131,22 @@ pub fn count_line<'a>(
 /// The first three lines.
 pub fn head_of(lines: Lines<'_>) -> Result<Head<'_>, CertError>
     requires { lines.number + 3 < 2 ^ 32 }
-    ensures head { Gives (λ h. record { number = h.number; vertices = h.vertices; rest = rest_behind h.rest }) result
+    ensures head { Gives (λ h. record {
+      layout = h.layout;
+      number = h.number;
+      vertices = h.vertices;
+      rest = rest_behind h.rest;
+    }) result
         (head_of (rest_behind lines.entry)) }
     ensures number { IfOk result (λ h. h.rest.number ≡ lines.entry.number + 3) }
     ensures vertices { IfOk result (λ h. IsVertexCount h.vertices) }
     ensures digits { IfOk result (λ h. h.number < 10 ^ MOST_DIGITS) }
 {
-    let rest = fixed_line(b"apsp certificate 1", lines)?;
+    let (layout, rest) = title_line(lines)?;
     let (number, rest) = named_line(b"number", rest)?;
     let (vertices, rest) = vertices_line(rest)?;
     Ok(Head {
+        layout,
         number,
         vertices,
         rest,

@@ -7,10 +7,11 @@ ghost use Rattle.apsp_model.specs.Stated.{Stated as Stated_model};
 ghost use Rattle.graph_store.specs.Making.{IsVertexCount};
 ghost use Rattle.certificate.specs.Grammar.{IsCertText};
 ghost use Rattle.certificate.specs.Reading.{body_of, stated_by};
-ghost use Rattle.certificate.specs.Answer.{rest_behind, GivesOrMemory, IsEarly, ReadsEdges, ReadsPairs};
+ghost use Rattle.certificate.specs.Answer.{rest_behind, GivesOrMemory, IsEarly, ReadsEdges, ReadsPairs, ReadsEdgeLines, ReadsPairLines};
 
+use crate::groups::{edge_group, pair_group};
 use crate::items::{edge_line, pair_line};
-use crate::lines::{Head, Lines, count_line, end_line, head_of};
+use crate::lines::{Head, Layout, Lines, count_line, end_line, head_of};
 use crate::stated::Stated;
 use crate::{CertError, MOST_DIGITS};
 use std::alloc::Global;
@@ -46,27 +47,51 @@ fn body_of(alloc: Global, head: Head<'_>) -> Result<Stated, CertError>
     requires digits { head.number < 10 ^ MOST_DIGITS }
     ensures { GivesOrMemory (λ s. s) result
         (body_of (record {
+          layout = head.entry.layout;
           number = head.entry.number;
           vertices = head.entry.vertices;
           rest = rest_behind head.entry.rest;
         })) }
 {
     let mut stated = Stated::new(alloc, head.number, head.vertices)?;
-    let rest = read_edges(&mut stated, head.rest)?;
-    let rest = read_pairs(&mut stated, rest)?;
+    let rest = read_edges(&mut stated, head.layout, head.rest)?;
+    let rest = read_pairs(&mut stated, head.layout, rest)?;
     end_line(rest)?;
     Ok(stated)
 }
 
 /// Reads the edges, and gives the lines behind them.
-fn read_edges<'a>(stated: &mut Stated, lines: Lines<'a>) -> Result<Lines<'a>, CertError>
+fn read_edges<'a>(
+    stated: &mut Stated,
+    layout: Layout,
+    lines: Lines<'a>,
+) -> Result<Lines<'a>, CertError>
     requires number { lines.number ≤ 4 }
     requires none { stated.old.graph ≡ no_edges stated.old.graph.vertices }
-    ensures edges { ReadsEdges stated.old stated.new result (rest_behind lines.entry) }
+    ensures edges { ReadsEdges layout stated.old stated.new result (rest_behind lines.entry) }
     ensures number { IfOk result (λ r. r.number ≤ 5 + MOST_VERTICES * (MOST_VERTICES - 1)) }
 {
     let n = stated.vertices();
-    let (count, mut rest) = count_line(b"edges", n * (n - 1), lines)?;
+    let (count, rest) = count_line(b"edges", n * (n - 1), lines)?;
+    match layout {
+        Layout::ByItem => edges_by_item(stated, count, rest),
+        Layout::ByVertex => edges_by_vertex(stated, count, rest),
+    }
+}
+
+/// Reads so many edges, each from a line of its own.
+fn edges_by_item<'a>(
+    stated: &mut Stated,
+    count: u32,
+    lines: Lines<'a>,
+) -> Result<Lines<'a>, CertError>
+    requires number { lines.number + count < 2 ^ 32 }
+    requires none { stated.old.graph ≡ no_edges stated.old.graph.vertices }
+    ensures edges { ReadsEdgeLines Layout.ByItem count stated.old stated.new result (rest_behind lines.entry) }
+    ensures number { IfOk result (λ r. r.number ≤ lines.entry.number + count) }
+{
+    let n = stated.vertices();
+    let mut rest = lines;
     let mut before = None;
     'edges: for _ in 0..count {
         let (edge, behind) = edge_line(n, before, rest)?;
@@ -77,21 +102,96 @@ fn read_edges<'a>(stated: &mut Stated, lines: Lines<'a>) -> Result<Lines<'a>, Ce
     Ok(rest)
 }
 
+/// Reads so many edges, those from a vertex from a line.
+fn edges_by_vertex<'a>(
+    stated: &mut Stated,
+    count: u32,
+    lines: Lines<'a>,
+) -> Result<Lines<'a>, CertError>
+    requires number { lines.number + count < 2 ^ 32 }
+    requires none { stated.old.graph ≡ no_edges stated.old.graph.vertices }
+    ensures edges { ReadsEdgeLines Layout.ByVertex count stated.old stated.new result (rest_behind lines.entry) }
+    ensures number { IfOk result (λ r. r.number ≤ lines.entry.number + count) }
+{
+    let mut rest = lines;
+    let mut left = count;
+    let mut before = None;
+    'lines: for _ in 0..count {
+        if left == 0 {
+            return Ok(rest);
+        }
+        let group = edge_group(stated, left, before, rest)?;
+        left -= group.count;
+        before = Some(group.from);
+        rest = group.rest;
+    }
+    Ok(rest)
+}
+
 /// Reads the pairs, and gives the lines behind them.
-fn read_pairs<'a>(stated: &mut Stated, lines: Lines<'a>) -> Result<Lines<'a>, CertError>
+fn read_pairs<'a>(
+    stated: &mut Stated,
+    layout: Layout,
+    lines: Lines<'a>,
+) -> Result<Lines<'a>, CertError>
     requires number { lines.number ≤ 5 + MOST_VERTICES * (MOST_VERTICES - 1) }
     requires none { stated.old.entries ≡ map.empty }
-    ensures pairs { ReadsPairs stated.old stated.new result (rest_behind lines.entry) }
+    ensures pairs { ReadsPairs layout stated.old stated.new result (rest_behind lines.entry) }
     ensures number { IfOk result (λ r. r.number ≤ 6 + 2 * (MOST_VERTICES * (MOST_VERTICES - 1))) }
 {
     let n = stated.vertices();
-    let (count, mut rest) = count_line(b"pairs", n * (n - 1), lines)?;
+    let (count, rest) = count_line(b"pairs", n * (n - 1), lines)?;
+    match layout {
+        Layout::ByItem => pairs_by_item(stated, count, rest),
+        Layout::ByVertex => pairs_by_vertex(stated, count, rest),
+    }
+}
+
+/// Reads so many pairs, each from a line of its own.
+fn pairs_by_item<'a>(
+    stated: &mut Stated,
+    count: u32,
+    lines: Lines<'a>,
+) -> Result<Lines<'a>, CertError>
+    requires number { lines.number + count < 2 ^ 32 }
+    requires none { stated.old.entries ≡ map.empty }
+    ensures pairs { ReadsPairLines Layout.ByItem count stated.old stated.new result (rest_behind lines.entry) }
+    ensures number { IfOk result (λ r. r.number ≤ lines.entry.number + count) }
+{
+    let n = stated.vertices();
+    let mut rest = lines;
     let mut before = None;
     'pairs: for _ in 0..count {
         let (pair, behind) = pair_line(n, before, rest)?;
         stated.put_pair(&pair);
         before = Some((pair.from, pair.to));
         rest = behind;
+    }
+    Ok(rest)
+}
+
+/// Reads so many pairs, those from a vertex from a line.
+fn pairs_by_vertex<'a>(
+    stated: &mut Stated,
+    count: u32,
+    lines: Lines<'a>,
+) -> Result<Lines<'a>, CertError>
+    requires number { lines.number + count < 2 ^ 32 }
+    requires none { stated.old.entries ≡ map.empty }
+    ensures pairs { ReadsPairLines Layout.ByVertex count stated.old stated.new result (rest_behind lines.entry) }
+    ensures number { IfOk result (λ r. r.number ≤ lines.entry.number + count) }
+{
+    let mut rest = lines;
+    let mut left = count;
+    let mut before = None;
+    'lines: for _ in 0..count {
+        if left == 0 {
+            return Ok(rest);
+        }
+        let group = pair_group(stated, left, before, rest)?;
+        left -= group.count;
+        before = Some(group.from);
+        rest = group.rest;
     }
     Ok(rest)
 }

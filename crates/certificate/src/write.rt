@@ -1,113 +1,167 @@
 //! A certificate that is written, one line a give.
-ghost use Rattle.std.specs.Prelude.{◌≡◌, ℕ, ◌<◌, ◌≤◌, ◌+◌, ◌^◌, ◌∷◌, [], ◌++◌, length, codes, Option};
+ghost use Rattle.std.specs.Prelude.{◌≡◌, ℕ, ◌<◌, ◌≤◌, ◌+◌, ◌*◌, ◌^◌, ◌∷◌, [], ◌++◌, length, codes, Option};
 ghost use Rattle.std.specs.Option.{option_map};
-ghost use Rattle.apsp_model.specs.Graph.{IsGraph};
+ghost use Rattle.apsp_model.specs.Graph.{IsGraph, weight_at};
 ghost use Rattle.apsp_model.specs.Stated.{Stated, Entry as Stated_entry};
 ghost use Rattle.version_face.specs.Entries.{stated};
-ghost use Rattle.certificate.specs.Grammar.{named, spaced, edge_line_text, pair_line_text, joined, text_of};
+ghost use Rattle.certificate.specs.Grammar.{named, parted, edge_word_text, pair_word_text, words_text, joined, text_of};
 ghost use Rattle.certificate.specs.Table.{item_list};
 ghost use Rattle.certificate.specs.Giving.{IsStatedOf, GivesText};
-ghost use Rattle.certificate.specs.Writing.{items_text, table_text, row_edges, edge_items, IsEntryTable, row_pairs, pair_items};
+ghost use Rattle.certificate.specs.Writing.{row_line_text, rows_text, table_text, row_edges, edge_items, IsEntryTable, row_pairs, pair_items};
 
 use crate::MOST_DIGITS;
 use crate::line::Line;
 use apsp_io::{GiveError, Sink};
 use version_face::{Entry, NO_DISTANCE, Version};
 
-/// Gives the sink the certificate of the version, line by line. It takes no memory of its own.
+/// Gives the sink the certificate of the version in its second text, one line a give: a line for each vertex
+/// that has an edge from it, and for each that has a walk to another one. It takes no memory of its own, but
+/// room for a line, some 43 KB.
 pub fn write_certificate<K: Sink>(version: &Version, sink: &mut K) -> Result<(), GiveError>
     requires { version.now.number < 10 ^ MOST_DIGITS }
     ensures text { (s : Stated) × IsStatedOf version.now s ×
         GivesText result (K.held sink.old) (K.held sink.new) (K.faults sink.old) (K.faults sink.new) (text_of s) }
     ensures later { K.faults sink.old ≤ K.faults sink.new }
 {
-    give_head(version, sink)?;
-    give_edges(version, sink)?;
-    give_pairs(version, sink)?;
-    give_fixed(b"end", sink)
+    let mut line = Line::new();
+    give_head(version, &mut line, sink)?;
+    give_edges(version, &mut line, sink)?;
+    give_pairs(version, &mut line, sink)?;
+    give_fixed(b"end", &mut line, sink)
 }
 
 /// Gives the first three lines.
-fn give_head<K: Sink>(version: &Version, sink: &mut K) -> Result<(), GiveError>
+fn give_head<K: Sink>(version: &Version, line: &mut Line, sink: &mut K) -> Result<(), GiveError>
     ensures text { GivesText result (K.held sink.old) (K.held sink.new) (K.faults sink.old) (K.faults sink.new)
-        (joined (codes "apsp certificate 1" ∷ named (codes "number") version.now.number
+        (joined (codes "apsp certificate 2" ∷ named (codes "number") version.now.number
         ∷ named (codes "vertices") version.now.graph.vertices ∷ [])) }
     ensures later { K.faults sink.old ≤ K.faults sink.new }
     ensures graph { IsGraph version.now.graph }
 {
     let n = version.vertices();
-    give_fixed(b"apsp certificate 1", sink)?;
-    give_named(b"number", version.number(), sink)?;
-    give_named(b"vertices", u64::from(n), sink)
+    give_fixed(b"apsp certificate 2", line, sink)?;
+    give_named(b"number", version.number(), line, sink)?;
+    give_named(b"vertices", u64::from(n), line, sink)
 }
 
 /// Gives the number of the edges and their lines.
-fn give_edges<K: Sink>(version: &Version, sink: &mut K) -> Result<(), GiveError>
+fn give_edges<K: Sink>(version: &Version, line: &mut Line, sink: &mut K) -> Result<(), GiveError>
     ensures text { GivesText result (K.held sink.old) (K.held sink.new) (K.faults sink.old) (K.faults sink.new)
-        (table_text (codes "edges") edge_line_text (edge_items version.now.graph)) }
+        (table_text (codes "edges") edge_word_text (weight_at version.now.graph) version.now.graph.vertices) }
     ensures later { K.faults sink.old ≤ K.faults sink.new }
 {
-    give_named(b"edges", u64::from(count_edges(version)), sink)?;
-    give_edge_rows(version, sink)
+    give_named(b"edges", u64::from(count_edges(version)), line, sink)?;
+    give_edge_rows(version, line, sink)
 }
 
 /// Gives the number of the pairs that have a walk and their lines.
-fn give_pairs<K: Sink>(version: &Version, sink: &mut K) -> Result<(), GiveError>
+fn give_pairs<K: Sink>(version: &Version, line: &mut Line, sink: &mut K) -> Result<(), GiveError>
     ensures text { (f : ℕ → ℕ → Option Stated_entry) → IsEntryTable version.now.graph f →
         GivesText result (K.held sink.old) (K.held sink.new) (K.faults sink.old) (K.faults sink.new)
-        (table_text (codes "pairs") pair_line_text (pair_items version.now.graph f)) }
+        (table_text (codes "pairs") pair_word_text f version.now.graph.vertices) }
     ensures later { K.faults sink.old ≤ K.faults sink.new }
 {
-    give_named(b"pairs", u64::from(count_pairs(version)), sink)?;
-    give_pair_rows(version, sink)
+    give_named(b"pairs", u64::from(count_pairs(version)), line, sink)?;
+    give_pair_rows(version, line, sink)
 }
 
-fn give_edge_rows<K: Sink>(version: &Version, sink: &mut K) -> Result<(), GiveError>
+fn give_edge_rows<K: Sink>(
+    version: &Version,
+    line: &mut Line,
+    sink: &mut K,
+) -> Result<(), GiveError>
     ensures text { GivesText result (K.held sink.old) (K.held sink.new) (K.faults sink.old) (K.faults sink.new)
-        (items_text edge_line_text (edge_items version.now.graph)) }
+        (rows_text edge_word_text (weight_at version.now.graph) version.now.graph.vertices version.now.graph.vertices) }
     ensures later { K.faults sink.old ≤ K.faults sink.new }
 {
     'rows: for u in 0..version.vertices() {
-        give_edge_row(version, u, sink)?;
+        give_edge_row(version, u, line, sink)?;
     }
     Ok(())
 }
 
-fn give_edge_row<K: Sink>(version: &Version, u: u32, sink: &mut K) -> Result<(), GiveError>
+/// Gives the line of the edges from u, if there are any.
+fn give_edge_row<K: Sink>(
+    version: &Version,
+    u: u32,
+    line: &mut Line,
+    sink: &mut K,
+) -> Result<(), GiveError>
     requires { u < version.now.graph.vertices }
     ensures text { GivesText result (K.held sink.old) (K.held sink.new) (K.faults sink.old) (K.faults sink.new)
-        (items_text edge_line_text (row_edges version.now.graph u)) }
+        (row_line_text edge_word_text (row_edges version.now.graph u)) }
     ensures later { K.faults sink.old ≤ K.faults sink.new }
 {
-    'cells: for v in 0..version.vertices() {
-        give_weight(u, v, version.weight(u, v), sink)?;
+    if count_edge_row(version, u) == 0 {
+        return Ok(());
     }
-    Ok(())
+    line.clear();
+    line.put_number(u64::from(u));
+    put_edge_row(version, u, line);
+    give_line(line, sink)
 }
 
-fn give_pair_rows<K: Sink>(version: &Version, sink: &mut K) -> Result<(), GiveError>
+fn give_pair_rows<K: Sink>(
+    version: &Version,
+    line: &mut Line,
+    sink: &mut K,
+) -> Result<(), GiveError>
     ensures text { (f : ℕ → ℕ → Option Stated_entry) → IsEntryTable version.now.graph f →
         GivesText result (K.held sink.old) (K.held sink.new) (K.faults sink.old) (K.faults sink.new)
-        (items_text pair_line_text (pair_items version.now.graph f)) }
+        (rows_text pair_word_text f version.now.graph.vertices version.now.graph.vertices) }
     ensures later { K.faults sink.old ≤ K.faults sink.new }
 {
     'rows: for x in 0..version.vertices() {
-        give_pair_row(version, x, sink)?;
+        give_pair_row(version, x, line, sink)?;
     }
     Ok(())
 }
 
-fn give_pair_row<K: Sink>(version: &Version, x: u32, sink: &mut K) -> Result<(), GiveError>
+/// Gives the line of the pairs from x, if there are any.
+fn give_pair_row<K: Sink>(
+    version: &Version,
+    x: u32,
+    line: &mut Line,
+    sink: &mut K,
+) -> Result<(), GiveError>
     requires { x < version.now.graph.vertices }
     ensures text { (f : ℕ → ℕ → Option Stated_entry) → IsEntryTable version.now.graph f →
         GivesText result (K.held sink.old) (K.held sink.new) (K.faults sink.old) (K.faults sink.new)
-        (items_text pair_line_text (row_pairs version.now.graph f x)) }
+        (row_line_text pair_word_text (row_pairs version.now.graph f x)) }
     ensures later { K.faults sink.old ≤ K.faults sink.new }
 {
-    'cells: for y in 0..version.vertices() {
-        give_entry(x, y, entry(version, x, y), sink)?;
+    if count_pair_row(version, x) == 0 {
+        return Ok(());
     }
-    Ok(())
+    line.clear();
+    line.put_number(u64::from(x));
+    put_pair_row(version, x, line);
+    give_line(line, sink)
+}
+
+/// Puts the words of the edges from u behind a line.
+fn put_edge_row(version: &Version, u: u32, line: &mut Line)
+    requires u { u < version.now.graph.vertices }
+    requires room { length line.old ≤ 20 }
+    ensures bytes { line.new ≡ line.old ++ words_text edge_word_text (row_edges version.now.graph u) }
+    ensures within { length line.new ≤ 43028 }
+{
+    'cells: for v in 0..version.vertices() {
+        put_weight(u, v, version.weight(u, v), line);
+    }
+}
+
+/// Puts the words of the pairs from x behind a line.
+fn put_pair_row(version: &Version, x: u32, line: &mut Line)
+    requires x { x < version.now.graph.vertices }
+    requires room { length line.old ≤ 20 }
+    ensures bytes { (f : ℕ → ℕ → Option Stated_entry) → IsEntryTable version.now.graph f →
+        line.new ≡ line.old ++ words_text pair_word_text (row_pairs version.now.graph f x) }
+    ensures within { length line.new ≤ 43028 }
+{
+    'cells: for y in 0..version.vertices() {
+        put_entry(x, y, entry(version, x, y), line);
+    }
 }
 
 /// How many edges there are.
@@ -181,114 +235,83 @@ fn entry(version: &Version, x: u32, y: u32) -> Option<Entry>
     Some(Entry { dist, hops, next })
 }
 
+/// Puts the word of an edge behind a line, if there is one.
+fn put_weight(from: u32, to: u32, weight: Option<u32>, line: &mut Line)
+    requires { length line.old ≤ 42944 }
+    ensures bytes { line.new ≡ line.old ++ words_text edge_word_text (item_list (from, to) weight) }
+    ensures within { length line.new ≤ length line.old + 84 }
+{
+    if let Some(weight) = weight {
+        line.put(b" ");
+        line.put_number(u64::from(to));
+        line.put(b":");
+        line.put_number(u64::from(weight));
+    }
+}
+
+/// Puts the word of a pair behind a line, if it has an entry.
+fn put_entry(from: u32, to: u32, entry: Option<Entry>, line: &mut Line)
+    requires { length line.old ≤ 42944 }
+    ensures bytes { line.new ≡ line.old ++ words_text pair_word_text (item_list (from, to) (option_map stated entry)) }
+    ensures within { length line.new ≤ length line.old + 84 }
+{
+    if let Some(entry) = entry {
+        line.put(b" ");
+        line.put_number(u64::from(to));
+        line.put(b":");
+        put_numbers(entry, line);
+    }
+}
+
+/// Puts the distance, the hops and the next vertex of an entry behind a line.
+fn put_numbers(entry: Entry, line: &mut Line)
+    requires { length line.old ≤ 42966 }
+    ensures bytes { line.new ≡ line.old ++ parted 58 (entry.dist ∷ entry.hops ∷ entry.next ∷ []) }
+    ensures within { length line.new ≤ length line.old + 62 }
+{
+    line.put_number(entry.dist);
+    line.put(b":");
+    line.put_number(u64::from(entry.hops));
+    line.put(b":");
+    line.put_number(u64::from(entry.next));
+}
+
 /// Gives a line that is this text.
-fn give_fixed<K: Sink>(text: &[u8], sink: &mut K) -> Result<(), GiveError>
+fn give_fixed<K: Sink>(text: &[u8], line: &mut Line, sink: &mut K) -> Result<(), GiveError>
     requires { length text.now ≤ 20 }
     ensures text { GivesText result (K.held sink.old) (K.held sink.new) (K.faults sink.old) (K.faults sink.new)
         (text.now ++ 10 ∷ []) }
     ensures later { K.faults sink.old ≤ K.faults sink.new }
 {
-    let mut line = Line::new();
+    line.clear();
     line.put(text);
     give_line(line, sink)
 }
 
 /// Gives a line with a number behind a word.
-fn give_named<K: Sink>(word: &[u8], number: u64, sink: &mut K) -> Result<(), GiveError>
+fn give_named<K: Sink>(
+    word: &[u8],
+    number: u64,
+    line: &mut Line,
+    sink: &mut K,
+) -> Result<(), GiveError>
     requires { length word.now ≤ 20 }
     ensures text { GivesText result (K.held sink.old) (K.held sink.new) (K.faults sink.old) (K.faults sink.new)
         (named word.now number ++ 10 ∷ []) }
     ensures later { K.faults sink.old ≤ K.faults sink.new }
 {
-    let mut line = Line::new();
+    line.clear();
     line.put(word);
     line.put(b" ");
     line.put_number(number);
     give_line(line, sink)
 }
 
-/// Gives the line of an edge, if there is one.
-fn give_weight<K: Sink>(
-    from: u32,
-    to: u32,
-    weight: Option<u32>,
-    sink: &mut K,
-) -> Result<(), GiveError>
-    ensures text { GivesText result (K.held sink.old) (K.held sink.new) (K.faults sink.old) (K.faults sink.new)
-        (items_text edge_line_text (item_list (from, to) weight)) }
-    ensures later { K.faults sink.old ≤ K.faults sink.new }
-{
-    match weight {
-        Some(weight) => give_edge(from, to, weight, sink),
-        None => Ok(()),
-    }
-}
-
-/// Gives the line of a pair, if it has an entry.
-fn give_entry<K: Sink>(
-    from: u32,
-    to: u32,
-    entry: Option<Entry>,
-    sink: &mut K,
-) -> Result<(), GiveError>
-    ensures text { GivesText result (K.held sink.old) (K.held sink.new) (K.faults sink.old) (K.faults sink.new)
-        (items_text pair_line_text (item_list (from, to) (option_map stated entry))) }
-    ensures later { K.faults sink.old ≤ K.faults sink.new }
-{
-    match entry {
-        Some(entry) => give_pair(from, to, entry, sink),
-        None => Ok(()),
-    }
-}
-
-/// Gives the line of an edge.
-fn give_edge<K: Sink>(from: u32, to: u32, weight: u32, sink: &mut K) -> Result<(), GiveError>
-    ensures text { GivesText result (K.held sink.old) (K.held sink.new) (K.faults sink.old) (K.faults sink.new)
-        (edge_line_text ((from, to), weight) ++ 10 ∷ []) }
-    ensures later { K.faults sink.old ≤ K.faults sink.new }
-{
-    let mut line = Line::new();
-    line.put_number(u64::from(from));
-    line.put(b" ");
-    line.put_number(u64::from(to));
-    line.put(b" ");
-    line.put_number(u64::from(weight));
-    give_line(line, sink)
-}
-
-/// Gives the line of a pair.
-fn give_pair<K: Sink>(from: u32, to: u32, entry: Entry, sink: &mut K) -> Result<(), GiveError>
-    ensures text { GivesText result (K.held sink.old) (K.held sink.new) (K.faults sink.old) (K.faults sink.new)
-        (pair_line_text ((from, to), stated entry) ++ 10 ∷ []) }
-    ensures later { K.faults sink.old ≤ K.faults sink.new }
-{
-    let mut line = Line::new();
-    line.put_number(u64::from(from));
-    line.put(b" ");
-    line.put_number(u64::from(to));
-    line.put(b" ");
-    put_entry(&mut line, entry);
-    give_line(line, sink)
-}
-
-/// Puts the distance, the hops and the next vertex of an entry behind a line.
-fn put_entry(line: &mut Line, entry: Entry)
-    requires { length line.old ≤ 42 }
-    ensures bytes { line.new ≡ line.old ++ spaced (entry.dist ∷ entry.hops ∷ entry.next ∷ []) }
-    ensures within { length line.new ≤ length line.old + 62 }
-{
-    line.put_number(entry.dist);
-    line.put(b" ");
-    line.put_number(u64::from(entry.hops));
-    line.put(b" ");
-    line.put_number(u64::from(entry.next));
-}
-
 /// Gives a line with its newline.
-fn give_line<K: Sink>(mut line: Line, sink: &mut K) -> Result<(), GiveError>
-    requires { length line ≤ 120 }
+fn give_line<K: Sink>(line: &mut Line, sink: &mut K) -> Result<(), GiveError>
+    requires { length line.old ≤ 43028 }
     ensures text { GivesText result (K.held sink.old) (K.held sink.new) (K.faults sink.old) (K.faults sink.new)
-        (line ++ 10 ∷ []) }
+        (line.old ++ 10 ∷ []) }
     ensures later { K.faults sink.old ≤ K.faults sink.new }
 {
     line.put(b"\n");

@@ -55,7 +55,10 @@ fn read_back(alloc: Global, version: &Version, text: &Text) -> Result<Stated, Me
     let _vertices = version.vertices();
     match read_certificate(alloc, text.bytes()) {
         Ok(stated) => Ok(stated),
-        Err(CertError::Memory) => Err(Memory),
-        Err(_) => unreachable!(),
+        Err(error) => match error {
+            CertError::Memory => Err(Memory),
+            // What is written is a text of the grammar.
+            CertError::Shape(_) | CertError::Order(_) | CertError::Range(_) => unreachable!(),
+        },
     }
 }

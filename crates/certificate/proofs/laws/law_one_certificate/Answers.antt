@@ -1,6 +1,9 @@
 use Rattle.certificate.proofs.Late.{never_memory}
-use Rattle.certificate.proofs.Texts.{cert_again, one_stated, text_parts}
+use Rattle.certificate.proofs.Texts.{cert_again, one_stated, one_text, text_parts}
 use Rattle.certificate.proofs.laws.law_one_certificate.Goals as goal
+
+pub returns-clause-text : goal.returns-clause-text
+returns-clause-text c = one_text
 
 pub returns-clause-stated : goal.returns-clause-stated
 returns-clause-stated c = one_stated

@@ -10,7 +10,7 @@ pub returns-in_err-give_fixed-clause-text : goal.returns-in_err-give_fixed-claus
 returns-in_err-give_fixed-clause-text g c =
     let p = err_from_is_err_and c.from_residual.result c.from_residual.ensures.1 in
     let v = c.args.version.now in
-    rw (p.1, p.2) (head_stops_first (codes "apsp certificate 1") (named (codes "number") v.number)
+    rw (p.1, p.2) (head_stops_first (codes "apsp certificate 2") (named (codes "number") v.number)
     (named (codes "vertices") v.graph.vertices) c.in_err-give_fixed.field-0.0 (g.K.Sink.held c.args.sink.now)
     (g.K.Sink.held c.give_fixed.new.sink) (g.K.Sink.faults c.args.sink.now) (g.K.Sink.faults c.give_fixed.new.sink)
     c.in_err-give_fixed.ensures.text)
@@ -19,7 +19,7 @@ pub returns-in_err-give_named-clause-text : goal.returns-in_err-give_named-claus
 returns-in_err-give_named-clause-text g c =
     let p = err_from_is_err_and c.from_residual-in_err-give_named.result c.from_residual-in_err-give_named.ensures.1 in
     let v = c.args.version.now in
-    rw (p.1, p.2) (head_stops_second (codes "apsp certificate 1") (named (codes "number") v.number)
+    rw (p.1, p.2) (head_stops_second (codes "apsp certificate 2") (named (codes "number") v.number)
     (named (codes "vertices") v.graph.vertices) c.in_err-give_named.field-0.0 (g.K.Sink.held c.args.sink.now)
     (g.K.Sink.held c.give_fixed.new.sink) (g.K.Sink.held c.give_named.new.sink) (g.K.Sink.faults c.args.sink.now)
     (g.K.Sink.faults c.give_fixed.new.sink) (g.K.Sink.faults c.give_named.new.sink) c.in_ok-give_fixed.ensures.text
@@ -32,7 +32,7 @@ returns-in_err-give_named-clause-text g c =
 pub returns-clause-text : goal.returns-clause-text
 returns-clause-text g c =
     let v = c.args.version.now in
-    head_last (codes "apsp certificate 1") (named (codes "number") v.number) (named (codes "vertices") v.graph.vertices)
+    head_last (codes "apsp certificate 2") (named (codes "number") v.number) (named (codes "vertices") v.graph.vertices)
     c.give_named-2.result (g.K.Sink.held c.args.sink.now) (g.K.Sink.held c.give_fixed.new.sink)
     (g.K.Sink.held c.give_named.new.sink) (g.K.Sink.held c.give_named-2.new.sink) (g.K.Sink.faults c.args.sink.now)
     (g.K.Sink.faults c.give_fixed.new.sink) (g.K.Sink.faults c.give_named.new.sink)

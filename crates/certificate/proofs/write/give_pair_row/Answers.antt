@@ -1,24 +1,21 @@
-use Rattle.std.proofs.Common.{subst, arith}
-use Rattle.std.proofs.lemmas.Result.{err_from_is_err_and}
-use Rattle.certificate.specs.Grammar.{pair_line_text}
-use Rattle.std.specs.Prelude.{Option, Err}
-use Rattle.apsp_model.specs.Stated.{Entry}
-use Rattle.certificate.specs.Table.{item_list}
-use Rattle.certificate.specs.Writing.{items_text}
+use Rattle.std.proofs.Common.{sym, ◌∙◌, ap, subst}
+use Rattle.std.specs.Prelude.{List, ℕ, ◌++◌, ◌∷◌, []}
+use Rattle.std.specs.Fmt.{decimal}
+use Rattle.certificate.specs.Grammar.{pair_word_text, words_text}
 use Rattle.certificate.specs.Giving.{GivesText}
-use Rattle.certificate.proofs.Given.{row_stops}
+use Rattle.certificate.specs.Writing.{row_pairs}
+use Rattle.certificate.proofs.Rows.{row_line}
 use Rattle.certificate.proofs.write.give_pair_row.Goals as goal
 
-pub returns-in_err-give_entry-clause-text : goal.returns-in_err-give_entry-clause-text
-returns-in_err-give_entry-clause-text g c = λ f h.
-    let p = err_from_is_err_and c.from_residual.result c.from_residual.ensures.1 in
+pub returns-clause-text : goal.returns-clause-text
+returns-clause-text g c = λ f h.
     let G = c.args.version.now.graph in
-    let P : Option Entry → Type 0 =
-    λ o. GivesText (Err c.in_err-give_entry.field-0.0) (g.K.Sink.held c.cells.sink)
-    (g.K.Sink.held c.give_entry.new.sink) (g.K.Sink.faults c.cells.sink) (g.K.Sink.faults c.give_entry.new.sink)
-    (items_text pair_line_text (item_list (c.args.x, c.cells.y) o)) in
-    rw (p.1, p.2) (row_stops pair_line_text (g.K.Sink.held c.args.sink.now) (g.K.Sink.held c.cells.sink)
-    (g.K.Sink.held c.give_entry.new.sink) (g.K.Sink.faults c.args.sink.now) (g.K.Sink.faults c.cells.sink)
-    (g.K.Sink.faults c.give_entry.new.sink) c.in_err-give_entry.field-0.0 (f c.args.x) c.args.x c.cells.y G.vertices
-    (omega (arith, c.cells-test.true, c.vertices-y-end.ensures.vertices)) (c.cells.invariant.0 f h)
-    (subst P (c.entry.ensures f h) c.in_err-give_entry.ensures.text))
+    let P : List ℕ → Type 0 =
+    λ t. GivesText c.give_line.result (g.K.Sink.held c.args.sink.now) (g.K.Sink.held c.give_line.new.sink)
+    (g.K.Sink.faults c.args.sink.now) (g.K.Sink.faults c.give_line.new.sink) t in
+    subst P (sym (row_line pair_word_text (f c.args.x) c.args.x G.vertices
+    (λ e. c.if-count_pair_row-eq0.false (c.count_pair_row.ensures.count f h ∙ e))
+    ∙ ap (λ l. l ++ 10 ∷ []) (sym (c.put_pair_row.ensures.bytes f h
+    ∙ ap (λ l. l ++ words_text pair_word_text (row_pairs G f c.args.x))
+    (c.put_number.ensures.bytes ∙ ap (λ l. l ++ decimal c.from.result) c.clear.ensures ∙ ap decimal c.from.ensures)))))
+    c.give_line.ensures.text

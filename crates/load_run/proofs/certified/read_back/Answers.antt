@@ -1,8 +1,9 @@
-use Rattle.std.proofs.Common.{◌≡◌, ◌∙◌, subst}
+use Rattle.std.proofs.Common.{◌≡◌, ◌⊎◌, ◌∙◌, ℕ, subst, inl, inr}
 use Rattle.std.specs.Prelude.{Result, Ok, Err}
 use Rattle.apsp_model.specs.Stated.{Stated}
 use Rattle.certificate.specs.declared.CertError.{CertError}
 use Rattle.certificate.specs.declared.CertError.TheVariants.{Shape, Order, Range, Memory}
+use Rattle.certificate.specs.declared.lines.Layout.TheVariants.{ByVertex}
 use Rattle.certificate.specs.Giving.{IsStatedOf}
 use Rattle.certificate.specs.Answer.{GivesOrMemory}
 use Rattle.load_run.proofs.certified.read_back.Goals as goal
@@ -22,4 +23,28 @@ returns-in-Ok c =
     let writable =
     c.law_version.ensures.writable c.args.version.now t.0 c.vertices-vertices.ensures.graph c.requires.digits t.1 in
     read (λ s. IsStatedOf c.args.version.now s) _ _ t.0 c.in-Ok.is
-    (c.read_certificate.ensures.only t.0 (record { writable = writable; text = c.bytes.ensures ∙ t.2 })) t.1
+    (c.read_certificate.ensures.only t.0 (record { layout = ByVertex; writable = writable; text = c.bytes.ensures ∙ t.2 })) t.1
+
+-- no line of a text in the grammar is at fault
+no_fault : (r : Result Stated CertError) (e : CertError) (s : Stated) → r ≡ Err e
+    → (((k : ℕ) × (e ≡ Shape k)) ⊎ (((k : ℕ) × (e ≡ Order k)) ⊎ ((k : ℕ) × (e ≡ Range k))))
+    → GivesOrMemory (λ s. s) r (Ok s) → ⊥
+no_fault (Ok y) e s is fault given = cc
+no_fault (Err (Shape k)) e s is fault given = cc
+no_fault (Err (Order k)) e s is fault given = cc
+no_fault (Err (Range k)) e s is fault given = cc
+no_fault (Err Memory) e s is fault given = elim fault [
+  | inl shape ↦ let h : e ≡ Shape shape.0 = shape.1 in cc
+  | inr rest ↦ elim rest [
+    | inl order ↦ let h : e ≡ Order order.0 = order.1 in cc
+    | inr range ↦ let h : e ≡ Range range.0 = range.1 in cc
+  ]
+]
+
+pub unreachable-requires : goal.unreachable-requires
+unreachable-requires c =
+    let t = c.requires.text in
+    let writable =
+    c.law_version.ensures.writable c.args.version.now t.0 c.vertices-vertices.ensures.graph c.requires.digits t.1 in
+    no_fault _ _ t.0 c.in-Err.is c.in-Shape.is
+    (c.read_certificate.ensures.only t.0 (record { layout = ByVertex; writable = writable; text = c.bytes.ensures ∙ t.2 }))
