@@ -1,9 +1,8 @@
 -- What the kept paths answer where each shortest list is kept, and what a new book keeps: for `is_least` and the
 -- engine's readers.
-use Rattle.std.specs.Prelude.{◌≡◌, ℕ, ◌<◌, ◌↔◌, IsTrue, List, [], ◌∷◌, Option, Some, None, MatchOption, is_some, refl, Contains}
+use Rattle.std.specs.Prelude.{◌≡◌, ℕ, ◌<◌, List, [], ◌∷◌, Option, Some, None, MatchOption, refl, Contains}
 use Rattle.std.specs.declared.cmp.Ordering.TheVariants.{Less}
 use Rattle.std.proofs.Common.{sym, ◌∙◌, ap, subst, arith, inl, inr}
-use Rattle.std.proofs.lemmas.Bool.{false≢true}
 use Rattle.apsp_model.specs.Graph.{Graph, no_edges}
 use Rattle.apsp_model.specs.Walk.{IsWalkFrom, weight_of as walk_weight, hops_of, first, last}
 use Rattle.apsp_model.specs.Order.{IsBelow, path_cmp}
@@ -11,7 +10,7 @@ use Rattle.apsp_model.specs.Least.{IsLeast, HasNoWalk}
 use Rattle.apsp_model.specs.Local.{IsVertex, IsShortest}
 use Rattle.apsp_model.specs.Counts.{CountIs}
 use Rattle.apsp_model.specs.Kept.{IsWithEdge}
-use Rattle.apsp_model.specs.Paths.{KeptPath, IsKeptIn, IsHistoricalIn, HasBirthIn}
+use Rattle.apsp_model.specs.Paths.{KeptPath, IsKeptIn, IsHistoricalIn}
 use Rattle.apsp_model.specs.Settled.{IsReady, IsSettled}
 use Rattle.apsp_model.proofs.Below.{upto_or_above}
 use Rattle.apsp_model.proofs.Counting.{count_same}
@@ -149,12 +148,13 @@ module _ (b : Book) (g : Graph) (c : CoversShortest g (kept_paths b)) (x y : ℕ
       ap Some (was.once q id l.live live
       (least_unique g x y (list_of b.arena q) (list_of b.arena id) (least_walk q l) least))
 
--- where exactly the locally shortest paths are kept, the least of each pair is historical
-pub none_pending : (b : Book) (g : Graph) → IsShortestBook g (kept_paths b) → HasNonePending b
-none_pending b g s x y inside_x inside_y = elim (least_or_none g x y) [
+-- where each shortest path is historical, the least kept one of each pair is
+pub none_pending : (b : Book) (g : Graph) → CoversShortest g (kept_paths b)
+    → ((p : List ℕ) → IsShortest g p → IsHistoricalIn (kept_paths b) p) → HasNonePending b
+none_pending b g c shortest x y inside_x inside_y = elim (least_or_none g x y) [
   | inr none ↦ inl (λ q live ends. none (list_of b.arena q) (walk_between b g c x y q live ends))
   | inl p ↦
-      let m = (historical_marked b p.0).0 ((s.historical p.0).1 (inr (x, y, p.1))) in
+      let m = (historical_marked b p.0).0 (shortest p.0 (inr (x, y, p.1))) in
       let walk : IsWalkFrom g x y p.0 = p.1.walk in
       inr (
         m.0,
@@ -173,9 +173,6 @@ none_pending b g s x y inside_x inside_y = elim (least_or_none g x y) [
         m.3,
       )
 ]
-  where
-    c : CoversShortest g (kept_paths b)
-    c = book_covers g (kept_paths b) s
 
 -- ---- a new book
 
@@ -241,12 +238,6 @@ counts_are e c keeps number paths shortest =
     }
 
 -- ---- what the engine's readers give
-
--- whether a list has a birth is whether it is kept
-pub kept_told : (paths : List KeptPath) (list : List ℕ) (o : Option ℕ)
-    → MatchOption o (IsKeptIn paths list → ⊥) (HasBirthIn paths list) → IsTrue (is_some o) ↔ IsKeptIn paths list
-kept_told paths list None none = (λ t. absurd (false≢true t), λ h. absurd (none h))
-kept_told paths list (Some b) birth = (λ t. (birth.0, birth.1, birth.2), λ h. refl)
 
 second_is : (p : List ℕ) (v : ℕ) → second p ≡ Some v → v ≡ second_of p
 second_is [] v e = cc

@@ -1,4 +1,5 @@
--- The demotions of a list of ids, from its end: its start, one turn, and its end. For `demote_all`, `demote` and `update`.
+-- The demotions of a list of ids, from its end: its start, one turn, and its end. For `star`, `demote_last`,
+-- `demote` and `found`.
 use Rattle.std.specs.Prelude.{◌≡◌, ℕ, ◌<◌, ◌≤◌, ◌↔◌, List, [], ◌∷◌, ◌++◌, length, Some, is_some, refl, Contains}
 use Rattle.std.proofs.Common.{sym, ◌∙◌, ap, subst, arith, inl, inr}
 use Rattle.std.proofs.lemmas.List.Elements.{Contains-append_left, Contains-append_right}
@@ -11,7 +12,7 @@ use Rattle.apsp_model.proofs.Locals.{left_is_part, right_is_part}
 use Rattle.apsp_model.proofs.Members.{head_in, tail_in}
 use Rattle.path_arena.specs.Arena.{path_at, list_of, left_of, right_of, IsLive, HasAnEdge}
 use Rattle.path_arena.proofs.Paths.{live_from_edge}
-use Rattle.path_book.specs.Book.{Book, IsBook, IsMarked, kept_paths}
+use Rattle.path_book.specs.Book.{Book, IsBook, IsMarked, kept_paths, HasNonePending}
 use Rattle.path_book.specs.Through.{AreForgotten}
 use Rattle.path_book.proofs.Changes.{kept_before, kept_still}
 use Rattle.path_book.proofs.Ends.{Ends, ends, edge_of_right}
@@ -28,7 +29,7 @@ use Rattle.shortest_math.proofs.ShortestStars.{shortest_is_least, ToDemote}
 use Rattle.local_engine.specs.Kept.{KeepsLocal, CoversShortest}
 use Rattle.local_engine.specs.Demoting.{size_at, lists_at, AreOutdone, AreToDemote, IsLongerBy, IsForgottenFrom}
 use Rattle.local_engine.specs.Forming.{CanBeFormed, IsFormedOf}
-use Rattle.local_engine.proofs.Reading.{shortening_covers}
+use Rattle.local_engine.proofs.Reading.{shortening_covers, none_pending}
 use Rattle.local_engine.proofs.Forgetting.{path_still, path_was, same_path_of}
 
 same_some : (x y : ℕ) → Some x ≡ Some y → x ≡ y
@@ -116,6 +117,13 @@ pub all_demoted : (g : Graph) (b : Book) (ids : List ℕ) → length ids ≡ 0 �
     → IsShortestBook g (kept_paths b)
 all_demoted g b [] none s = shortening_ends g (IsHistoricalIn s.settled) (kept_paths b) s.shortening
 all_demoted g b (x ∷ ids) none s = absurd (omega (arith, none))
+
+-- ---- at any moment
+
+pub none_pending_yet : (g : Graph) (b : Book) (ids : List ℕ) → AreToDemote g b ids → HasNonePending b
+none_pending_yet g b ids s = none_pending b g
+    (shortening_covers g (IsHistoricalIn s.settled) (lists_at b ids) (kept_paths b) s.shortening)
+    (λ p h. (s.shortening.demoting.historical p).1 (inl h))
 
 -- ---- one turn
 

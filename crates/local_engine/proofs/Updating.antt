@@ -1,5 +1,5 @@
 -- The star of an update is put in place and taken back, and what an update starts from: for `LocalEngine::star` and
--- `update`.
+-- `found`.
 use Rattle.std.specs.Prelude.{◌≡◌, ℕ, Bool, true, false, if◌then◌else◌, List, Option, None, refl}
 use Rattle.std.specs.FinMap as map
 use Rattle.std.proofs.Common.{sym, ◌∙◌, ap}

@@ -1,11 +1,10 @@
 //! The demotion of historical paths that are no longer least walks.
 
-ghost use Rattle.std.specs.Prelude.{◌≡◌, ℕ, List, [], ◌∷◌, ◌++◌, IfOk, OnOk, Contains};
+ghost use Rattle.std.specs.Prelude.{◌≡◌, ℕ, ◌-◌, false, length, List, [], ◌∷◌, ◌++◌, IfOk, OnOk, Contains};
 ghost use Rattle.apsp_model.specs.Walk.{IsOnceEach};
 ghost use Rattle.path_arena.specs.Arena.{HasAnEdge, IsLive, IsPartOfNone};
-ghost use Rattle.path_book.specs.Book.{IsBook, IsMarked, kept_paths};
+ghost use Rattle.path_book.specs.Book.{IsBook, IsMarked};
 ghost use Rattle.path_book.specs.Through.{AreForgotten};
-ghost use Rattle.shortest_math.specs.Shortest.{IsShortestBook};
 ghost use Rattle.local_engine.specs.Demoting.{AreToDemote, IsLastToDemote, IsLongerBy, IsForgottenFrom, AreLonger};
 ghost use Rattle.local_engine.specs.Forming.{CanBeFormed, IsFormedOf};
 
@@ -16,26 +15,36 @@ use path_arena::PathId;
 use path_book::Book;
 use std::alloc::Global;
 
-/// Demotes the paths, which stand in rising hops, from the last on. The least kept path of each pair is
-/// historical then, so the next settling begins with the pairs of what is formed and forgotten after it.
-pub(crate) fn demote_all(
+/// The paths that are left to demote, in rising hops, or that they are not known, since memory ran out.
+#[derive(Drop)]
+pub(crate) struct Left {
+    pub(crate) paths: Vec<PathId>,
+    pub(crate) is_unknown: bool,
+}
+
+/// Demotes the last of the paths that are left. The least kept path of each pair is historical then, so
+/// the next settling begins with the pairs of what is formed and forgotten after it.
+pub(crate) fn demote_last(
     alloc: Global,
     book: &mut Book,
     graph: &Graph,
-    paths: &[PathId],
+    left: &mut Left,
     birth: u64,
-) -> Result<(), Memory>
-    requires paths { AreToDemote graph.now book.old paths.now }
-    ensures kept { OnOk result (IsShortestBook graph.now (kept_paths book.new)) }
-    ensures same { OnOk result (book.new.arena.vertices ≡ graph.now.vertices) }
+)
+    requires paths { left.old.is_unknown ≡ false → AreToDemote graph.now book.old left.old.paths.items }
+    ensures rest { left.new.is_unknown ≡ false → AreToDemote graph.now book.new left.new.paths.items }
+    ensures fewer { length left.new.paths.items ≡ length left.old.paths.items - 1 }
 {
-    let mut rest = paths;
-    'longest: while let Some((&id, shorter)) = rest.split_last() {
-        rest = shorter;
-        demote(alloc, book, graph, id, birth)?;
+    let Some(id) = left.paths.pop() else {
+        return;
+    };
+    if left.is_unknown {
+        return;
     }
-    book.note_clean();
-    Ok(())
+    match demote(alloc, book, graph, id, birth) {
+        Ok(()) => book.note_clean(),
+        Err(Memory) => left.is_unknown = true,
+    }
 }
 
 /// Demotes a path that is a part of no other historical one: the paths with one vertex more are
