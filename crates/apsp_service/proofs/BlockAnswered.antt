@@ -78,8 +78,8 @@ some_block_reply p asks readers h =
         let b = (r.each j no_ask e below).number in
         omega (arith, a, b)
 
-pub block_reply_exists : (s : State) → IsLawfulState s → (text : List ℕ) × HasBlockReply s.readers s.block text
-block_reply_exists s h = at s.readers s.block h.block
+pub block_reply_exists : (s : State) → IsLawfulState s → (text : List ℕ) × HasBlockReply s.terms.readers s.block text
+block_reply_exists s h = at s.terms.readers s.block h.block
   where
     at : (readers : Option ℕ) (o : Option Block) → IfSome o (IsBlockOf s.vertices s.commands) → (text : List ℕ)
         × HasBlockReply readers o text

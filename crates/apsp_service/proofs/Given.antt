@@ -190,7 +190,7 @@ answer_stops r e old mid new first before now text answers i item cleared put gi
 -- ---- one line
 
 as_line_reply : (s : State) (l : Line) (text : List ℕ) → (l ≡ line.End → ⊥)
-    → HasReply s.vertices s.smooth s.commands l text → HasLineReply s l text
+    → HasReply s.vertices s.terms.smooth s.commands l text → HasLineReply s l text
 as_line_reply s line.End text other h = absurd (other refl)
 as_line_reply s line.Nothing text other h = h
 as_line_reply s (line.Vertices n) text other h = h
@@ -203,12 +203,16 @@ as_line_reply s (line.Row x) text other h = h
 as_line_reply s line.Stats text other h = h
 as_line_reply s (line.Age list) text other h = h
 as_line_reply s line.Cert text other h = h
+as_line_reply s (line.Grow n) text other h = h
+as_line_reply s (line.Ecc x) text other h = h
+as_line_reply s line.Report text other h = h
+as_line_reply s (line.Through v) text other h = h
 as_line_reply s line.Block text other h = h
 as_line_reply s (line.Ask x y since) text other h = h
 
 pub line_replied : {E : Type 0} (r : Result (Unit {0}) E) (s : State) (content : List ℕ) (l : Line) (old new : List ℕ)
     → line_of (context_of s) content ≡ Ok l → old ≡ [] → (l ≡ line.End → ⊥)
-    → OnOk r (GrowsBy (HasReply s.vertices s.smooth s.commands l) old new) → OnOk r (LineHasReply s content new)
+    → OnOk r (GrowsBy (HasReply s.vertices s.terms.smooth s.commands l) old new) → OnOk r (LineHasReply s content new)
 line_replied (Err e) s content l old new reading none other h = tt
 line_replied (Ok u) s content l old new reading none other h =
     let reply_is : h.0 ≡ new = sym (h.2 ∙ ap (λ o. o ++ h.0) none) in
@@ -217,7 +221,7 @@ line_replied (Ok u) s content l old new reading none other h =
     subst G (sym reading) (subst F reply_is (as_line_reply s l h.0 other h.1))
 
 pub ok_replied : (s : State) (content : List ℕ) (l : Line) (old new : List ℕ) → line_of (context_of s) content ≡ Ok l
-    → old ≡ [] → (l ≡ line.End → ⊥) → GrowsBy (HasReply s.vertices s.smooth s.commands l) old new
+    → old ≡ [] → (l ≡ line.End → ⊥) → GrowsBy (HasReply s.vertices s.terms.smooth s.commands l) old new
     → LineHasReply s content new
 ok_replied s content l old new reading none other h =
     line_replied {E = Unit {0}} (Ok tt) s content l old new reading none other h

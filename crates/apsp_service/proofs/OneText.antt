@@ -1,6 +1,6 @@
 -- A session has one text: each question has one answer.
 use Rattle.std.proofs.Common.{◌≡◌, ℕ, suc, ◌<◌, List, [], ◌∷◌, ◌++◌, length, get_or, refl, sym, ap, subst, ◌∙◌, arith}
-use Rattle.std.specs.Prelude.{Bool, false, Option, Some, None, Result, Ok, Err}
+use Rattle.std.specs.Prelude.{Bool, false, is_some, Option, Some, None, Result, Ok, Err}
 use Rattle.apsp_model.specs.Graph.{Graph}
 use Rattle.apsp_model.specs.Walk.{weight_of}
 use Rattle.apsp_model.specs.Least.{LeastIs}
@@ -14,11 +14,12 @@ use Rattle.script_reader.specs.Refused.{Refusal}
 use Rattle.script_reader.specs.declared.Line.{Line}
 use Rattle.script_reader.specs.declared.Line.TheVariants as line
 use Rattle.command_line.specs.declared.words.Mode.{Mode}
-use Rattle.command_line.specs.declared.words.Mode.TheVariants as mode
 use Rattle.network_replies.specs.Age.{IsBirth}
 use Rattle.network_replies.specs.Distance.{IsDistance, AreDistances}
 use Rattle.network_replies.specs.Replies.{dist_text, row_text, path_text, stats_text, age_text}
-use Rattle.apsp_service.specs.Session.{State, HasReply, HasBlockReply, HasLineReply, HasAnswer, HaveReplies, HaveAllReplies, HasSession, HasOneText, HasOneStatus, has_blocks, first_state, ending_of, accepted, counted, graph_here, updated_in, begun_in, asked_in, ended_in, after_read, after_line, after_lines, context_of, status_of}
+use Rattle.apsp_service.specs.declared.terms.Terms.{Terms}
+use Rattle.apsp_service.specs.Session.{State, HasReply, HasBlockReply, HasLineReply, HasAnswer, HaveReplies, HaveAllReplies, HasSession, HasOneText, HasOneStatus, Work, Answer_lines, Check_certificate, Run_drawn, work_of, IsDone, may_block, has_blocks, first_state, ending_of, accepted, counted, graph_here, updated_in, begun_in, asked_in, ended_in, after_read, after_line, after_lines, context_of, status_of}
+use Rattle.network_replies.proofs.Reported.{one_ecc, one_report, one_through}
 use Rattle.network_replies.specs.EdgeStar.{star_with}
 use Rattle.certificate.specs.Grammar.{text_of}
 use Rattle.certificate.proofs.VersionLaws.{one_stated_of}
@@ -108,80 +109,93 @@ one_reply n smooth commands (line.Age list) t u h k =
     h.2 ∙ ap (λ b. age_text list b) (one_birth n smooth commands list h.0 k.0 h.1 k.1) ∙ sym k.2
 one_reply n smooth commands line.Cert t u h k =
     h.2 ∙ ap text_of (one_stated_of (version_after n commands) h.0 k.0 h.1 k.1) ∙ sym k.2
+one_reply n smooth commands (line.Grow m) t u h k = h ∙ sym k
+one_reply n smooth commands (line.Ecc x) t u h k = one_ecc (graph_of n commands) x t u h k
+one_reply n smooth commands line.Report t u h k = one_report (graph_of n commands) t u h k
+one_reply n smooth commands (line.Through v) t u h k = one_through (graph_of n commands) v t u h k
 
 -- without blocks
-one_line_reply : (s : State) (l : Line) (t u : List ℕ) → s.readers ≡ None → HasLineReply s l t → HasLineReply s l u
+one_line_reply : (s : State) (l : Line) (t u : List ℕ) → s.terms.readers ≡ None → HasLineReply s l t → HasLineReply s l u
     → t ≡ u
 one_line_reply s line.End t u none h k =
     let F : Option ℕ → Type 0 = λ r. HasBlockReply r s.block t in
     let G : Option ℕ → Type 0 = λ r. HasBlockReply r s.block u in
     subst F none h ∙ sym (subst G none k)
-one_line_reply s line.Nothing t u none h k = one_reply s.vertices s.smooth s.commands line.Nothing t u h k
-one_line_reply s (line.Vertices m) t u none h k = one_reply s.vertices s.smooth s.commands (line.Vertices m) t u h k
-one_line_reply s (line.Star star) t u none h k = one_reply s.vertices s.smooth s.commands (line.Star star) t u h k
-one_line_reply s (line.Edge a b w) t u none h k = one_reply s.vertices s.smooth s.commands (line.Edge a b w) t u h k
-one_line_reply s (line.Cut a b) t u none h k = one_reply s.vertices s.smooth s.commands (line.Cut a b) t u h k
-one_line_reply s (line.Dist x y) t u none h k = one_reply s.vertices s.smooth s.commands (line.Dist x y) t u h k
-one_line_reply s (line.Path x y) t u none h k = one_reply s.vertices s.smooth s.commands (line.Path x y) t u h k
-one_line_reply s (line.Row x) t u none h k = one_reply s.vertices s.smooth s.commands (line.Row x) t u h k
-one_line_reply s line.Stats t u none h k = one_reply s.vertices s.smooth s.commands line.Stats t u h k
-one_line_reply s (line.Age list) t u none h k = one_reply s.vertices s.smooth s.commands (line.Age list) t u h k
-one_line_reply s line.Cert t u none h k = one_reply s.vertices s.smooth s.commands line.Cert t u h k
-one_line_reply s line.Block t u none h k = one_reply s.vertices s.smooth s.commands line.Block t u h k
+one_line_reply s line.Nothing t u none h k = one_reply s.vertices s.terms.smooth s.commands line.Nothing t u h k
+one_line_reply s (line.Vertices m) t u none h k = one_reply s.vertices s.terms.smooth s.commands (line.Vertices m) t u h k
+one_line_reply s (line.Star star) t u none h k = one_reply s.vertices s.terms.smooth s.commands (line.Star star) t u h k
+one_line_reply s (line.Edge a b w) t u none h k = one_reply s.vertices s.terms.smooth s.commands (line.Edge a b w) t u h k
+one_line_reply s (line.Cut a b) t u none h k = one_reply s.vertices s.terms.smooth s.commands (line.Cut a b) t u h k
+one_line_reply s (line.Dist x y) t u none h k = one_reply s.vertices s.terms.smooth s.commands (line.Dist x y) t u h k
+one_line_reply s (line.Path x y) t u none h k = one_reply s.vertices s.terms.smooth s.commands (line.Path x y) t u h k
+one_line_reply s (line.Row x) t u none h k = one_reply s.vertices s.terms.smooth s.commands (line.Row x) t u h k
+one_line_reply s line.Stats t u none h k = one_reply s.vertices s.terms.smooth s.commands line.Stats t u h k
+one_line_reply s (line.Age list) t u none h k = one_reply s.vertices s.terms.smooth s.commands (line.Age list) t u h k
+one_line_reply s line.Cert t u none h k = one_reply s.vertices s.terms.smooth s.commands line.Cert t u h k
+one_line_reply s (line.Grow m) t u none h k = one_reply s.vertices s.terms.smooth s.commands (line.Grow m) t u h k
+one_line_reply s (line.Ecc x) t u none h k = one_reply s.vertices s.terms.smooth s.commands (line.Ecc x) t u h k
+one_line_reply s line.Report t u none h k = one_reply s.vertices s.terms.smooth s.commands line.Report t u h k
+one_line_reply s (line.Through v) t u none h k =
+    one_reply s.vertices s.terms.smooth s.commands (line.Through v) t u h k
+one_line_reply s line.Block t u none h k = one_reply s.vertices s.terms.smooth s.commands line.Block t u h k
 one_line_reply s (line.Ask x y since) t u none h k =
-    one_reply s.vertices s.smooth s.commands (line.Ask x y since) t u h k
+    one_reply s.vertices s.terms.smooth s.commands (line.Ask x y since) t u h k
 
-one_answer : (s : State) (read : Result Line Refusal) (t u : List ℕ) → s.readers ≡ None → HasAnswer s read t
+one_answer : (s : State) (read : Result Line Refusal) (t u : List ℕ) → s.terms.readers ≡ None → HasAnswer s read t
     → HasAnswer s read u → t ≡ u
 one_answer s (Ok l) t u none h k = one_line_reply s l t u none h k
 one_answer s (Err refusal) t u none h k = h ∙ sym k
 
--- lines do not change how many readers there are
-updated_readers : (s : State) (o : Option Block) (star : Star) → (updated_in s o star).readers ≡ s.readers
-updated_readers s None star = refl
-updated_readers s (Some b) star = refl
+-- lines do not change the terms
+updated_terms : (s : State) (o : Option Block) (star : Star) → (updated_in s o star).terms ≡ s.terms
+updated_terms s None star = refl
+updated_terms s (Some b) star = refl
 
-begun_readers : (s : State) (r : Option ℕ) → (begun_in s r).readers ≡ s.readers
-begun_readers s None = refl
-begun_readers s (Some n) = refl
+begun_terms : (s : State) (r : Option ℕ) → (begun_in s r).terms ≡ s.terms
+begun_terms s None = refl
+begun_terms s (Some n) = refl
 
-asked_readers : (s : State) (o : Option Block) (ask : Ask) → (asked_in s o ask).readers ≡ s.readers
-asked_readers s None ask = refl
-asked_readers s (Some b) ask = refl
+asked_terms : (s : State) (o : Option Block) (ask : Ask) → (asked_in s o ask).terms ≡ s.terms
+asked_terms s None ask = refl
+asked_terms s (Some b) ask = refl
 
-ended_readers : (s : State) (o : Option Block) → (ended_in s o).readers ≡ s.readers
-ended_readers s None = refl
-ended_readers s (Some b) = refl
+ended_terms : (s : State) (o : Option Block) → (ended_in s o).terms ≡ s.terms
+ended_terms s None = refl
+ended_terms s (Some b) = refl
 
-accepted_readers : (s : State) (l : Line) → (accepted s l).readers ≡ s.readers
-accepted_readers s line.Nothing = refl
-accepted_readers s (line.Vertices n) = refl
-accepted_readers s (line.Star star) = updated_readers s s.block star
-accepted_readers s (line.Edge u v w) = updated_readers s s.block (star_with (graph_here s s.block) u v (Some w))
-accepted_readers s (line.Cut u v) = updated_readers s s.block (star_with (graph_here s s.block) u v None)
-accepted_readers s line.Block = begun_readers s s.readers
-accepted_readers s (line.Ask x y since) = asked_readers s s.block (record { x = x; y = y; since = since })
-accepted_readers s line.End = ended_readers s s.block
-accepted_readers s (line.Dist x y) = refl
-accepted_readers s (line.Path x y) = refl
-accepted_readers s (line.Row x) = refl
-accepted_readers s line.Cert = refl
-accepted_readers s line.Stats = refl
-accepted_readers s (line.Age list) = refl
+accepted_terms : (s : State) (l : Line) → (accepted s l).terms ≡ s.terms
+accepted_terms s line.Nothing = refl
+accepted_terms s (line.Vertices n) = refl
+accepted_terms s (line.Star star) = updated_terms s s.block star
+accepted_terms s (line.Edge u v w) = updated_terms s s.block (star_with (graph_here s s.block) u v (Some w))
+accepted_terms s (line.Cut u v) = updated_terms s s.block (star_with (graph_here s s.block) u v None)
+accepted_terms s line.Block = begun_terms s s.terms.readers
+accepted_terms s (line.Ask x y since) = asked_terms s s.block (record { x = x; y = y; since = since })
+accepted_terms s line.End = ended_terms s s.block
+accepted_terms s (line.Dist x y) = refl
+accepted_terms s (line.Path x y) = refl
+accepted_terms s (line.Row x) = refl
+accepted_terms s line.Cert = refl
+accepted_terms s line.Stats = refl
+accepted_terms s (line.Age list) = refl
+accepted_terms s (line.Grow m) = refl
+accepted_terms s (line.Ecc x) = refl
+accepted_terms s line.Report = refl
+accepted_terms s (line.Through v) = refl
 
-line_readers : (s : State) (bytes : List ℕ) → (after_line s bytes).readers ≡ s.readers
-line_readers s bytes = at (line_of (context_of s) bytes)
+line_terms : (s : State) (bytes : List ℕ) → (after_line s bytes).terms ≡ s.terms
+line_terms s bytes = at (line_of (context_of s) bytes)
   where
-    at : (r : Result Line Refusal) → (after_read s r).readers ≡ s.readers
-    at (Ok l) = accepted_readers (counted s) l
+    at : (r : Result Line Refusal) → (after_read s r).terms ≡ s.terms
+    at (Ok l) = accepted_terms (counted s) l
     at (Err refusal) = refl
 
-replies_are : (s : State) (lines : List (List ℕ)) (t u : List ℕ) → s.readers ≡ None → HaveReplies s lines t
+replies_are : (s : State) (lines : List (List ℕ)) (t u : List ℕ) → s.terms.readers ≡ None → HaveReplies s lines t
     → HaveReplies s lines u → t ≡ u
 replies_are s [] t u none h k = h ∙ sym k
 replies_are s (bytes ∷ lines) t u none h k =
     let first : h.0 ≡ k.0 = one_answer s (line_of (context_of s) bytes) h.0 k.0 none h.2 k.2 in
-    let others : h.1 ≡ k.1 = replies_are (after_line s bytes) lines h.1 k.1 (line_readers s bytes ∙ none) h.3 k.3 in
+    let others : h.1 ≡ k.1 = replies_are (after_line s bytes) lines h.1 k.1 (ap (λ (t : Terms). t.readers) (line_terms s bytes) ∙ none) h.3 k.3 in
     h.4 ∙ (λ i. first i ++ others i) ∙ sym k.4
 
 -- ---- the laws
@@ -189,7 +203,7 @@ replies_are s (bytes ∷ lines) t u none h k =
 some_text : (s : State) (lines : List (List ℕ)) → IsLawfulState s → (t : List ℕ) × HaveAllReplies s lines t
 some_text s lines h = let r = replies_exist s lines h in (r.0 ++ ending_of (after_lines s lines), (r.0, r.1, refl))
 
-all_replies_are : (s : State) (lines : List (List ℕ)) (t u : List ℕ) → s.readers ≡ None → HaveAllReplies s lines t
+all_replies_are : (s : State) (lines : List (List ℕ)) (t u : List ℕ) → s.terms.readers ≡ None → HaveAllReplies s lines t
     → HaveAllReplies s lines u → t ≡ u
 all_replies_are s lines t u none h k =
     h.2 ∙ ap (λ r. r ++ ending_of (after_lines s lines)) (replies_are s lines h.0 k.0 none h.1 k.1) ∙ sym k.2
@@ -198,7 +212,7 @@ all_replies_are s lines t u none h k =
 record HasOne (start : State) (bytes : List ℕ) : Type 0 where
   text : List ℕ
   session : HasSession start bytes text (status_of (after_lines start (lines_of bytes)))
-  only : start.readers ≡ None → (other : List ℕ) (ended : ℕ) → HasSession start bytes other ended → other ≡ text
+  only : start.terms.readers ≡ None → (other : List ℕ) (ended : ℕ) → HasSession start bytes other ended → other ≡ text
 
 one_over : (start : State) (bytes : List ℕ) → IsLawfulState start → HasOne start bytes
 one_over start bytes h =
@@ -209,52 +223,71 @@ one_over start bytes h =
       only = λ none other ended k. all_replies_are start (lines_of bytes) other text.0 none k.0 text.1;
     }
 
-pub one_text : (m : Mode) (bytes : List ℕ) → has_blocks m ≡ false → HasOneText m bytes
-one_text (mode.Run workers smooth) bytes none =
-    let one = one_over (first_state None smooth) bytes (opening_lawful None smooth) in
+-- the same of what a mode does
+record HasOneTextOf (w : Work) (bytes : List ℕ) : Type 0 where
+  text : List ℕ
+  status : ℕ
+  session : IsDone w bytes text status
+  only : (other : List ℕ) (ended : ℕ) → IsDone w bytes other ended → (other ≡ text) × (ended ≡ status)
+
+record HasOneStatusOf (w : Work) (bytes : List ℕ) : Type 0 where
+  text : List ℕ
+  status : ℕ
+  session : IsDone w bytes text status
+  only : (other : List ℕ) (ended : ℕ) → IsDone w bytes other ended → ended ≡ status
+
+text_of_work : (w : Work) (bytes : List ℕ) → may_block w ≡ false → HasOneTextOf w bytes
+text_of_work (Answer_lines terms) bytes none =
+    let one = one_over (first_state terms) bytes (opening_lawful terms) in
     record {
       text = one.text;
       status = _;
       session = one.session;
-      only = λ other ended k.
-          (one.only refl other ended k, k.1);
+      only = λ other ended k. (one.only (no_readers terms.readers none) other ended k, k.1);
     }
-one_text (mode.Live workers readers slots smooth) bytes none = cc
-one_text mode.Check bytes none =
+  where
+    no_readers : (r : Option ℕ) → is_some r ≡ false → r ≡ None
+    no_readers None e = refl
+    no_readers (Some n) e = cc
+text_of_work Check_certificate bytes none =
     let c = checked_exists bytes in
     record {
       text = c.0;
       status = c.1;
       session = c.2;
-      only = λ other ended h. one_checked bytes other c.0 ended c.1 h
-          c.2;
+      only = λ other ended h. one_checked bytes other c.0 ended c.1 h c.2;
     }
-one_text (mode.Load n seed workers) bytes none =
+text_of_work (Run_drawn n seed) bytes none =
     let c = load_exists n seed in
     record {
       text = c.0;
       status = 0;
       session = (c.1, refl);
-      only = λ other ended h.
-          (one_load n seed other c.0 h.0 c.1, h.1);
+      only = λ other ended h. (one_load n seed other c.0 h.0 c.1, h.1);
     }
 
-pub one_status : (m : Mode) (bytes : List ℕ) → HasOneStatus m bytes
-one_status (mode.Run workers smooth) bytes =
-    let one = one_over (first_state None smooth) bytes (opening_lawful None smooth) in
+pub one_text : (m : Mode) (bytes : List ℕ) → has_blocks m ≡ false → HasOneText m bytes
+one_text m bytes none =
+    let h = text_of_work (work_of m) bytes none in
+    record { text = h.text; status = h.status; session = h.session; only = h.only }
+
+status_of_work : (w : Work) (bytes : List ℕ) → HasOneStatusOf w bytes
+status_of_work (Answer_lines terms) bytes =
+    let one = one_over (first_state terms) bytes (opening_lawful terms) in
     record { text = one.text; status = _; session = one.session; only = λ other ended k. k.1 }
-one_status (mode.Live workers readers slots smooth) bytes =
-    let one = one_over (first_state (Some readers) smooth) bytes (opening_lawful (Some readers) smooth) in
-    record { text = one.text; status = _; session = one.session; only = λ other ended k. k.1 }
-one_status mode.Check bytes =
+status_of_work Check_certificate bytes =
     let c = checked_exists bytes in
     record {
       text = c.0;
       status = c.1;
       session = c.2;
-      only = λ other ended h.
-          (one_checked bytes other c.0 ended c.1 h c.2).1;
+      only = λ other ended h. (one_checked bytes other c.0 ended c.1 h c.2).1;
     }
-one_status (mode.Load n seed workers) bytes =
+status_of_work (Run_drawn n seed) bytes =
     let c = load_exists n seed in
     record { text = c.0; status = 0; session = (c.1, refl); only = λ other ended h. h.1 }
+
+pub one_status : (m : Mode) (bytes : List ℕ) → HasOneStatus m bytes
+one_status m bytes =
+    let h = status_of_work (work_of m) bytes in
+    record { text = h.text; status = h.status; session = h.session; only = h.only }

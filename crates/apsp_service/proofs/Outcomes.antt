@@ -7,12 +7,13 @@ use Rattle.script_reader.specs.Input.{lines_of, whole_lines}
 use Rattle.network_replies.specs.Streams.{Streams}
 use Rattle.command_line.specs.declared.words.Mode.{Mode}
 use Rattle.command_line.specs.declared.words.Mode.TheVariants as mode
+use Rattle.apsp_service.specs.declared.terms.Terms.{Terms}
 use Rattle.network_replies.specs.declared.stop.Stop.{Stop}
 use Rattle.network_replies.specs.declared.stop.Stop.TheVariants as stop
 use Rattle.apsp_service.specs.declared.run.TheConstants.{MOST_INPUT}
-use Rattle.apsp_service.specs.Session.{State, Session, HasSession, HasWholeReplies, HaveReplies, first_state, has_blocks, has_refused, after_lines, status_of}
+use Rattle.apsp_service.specs.Session.{State, Session, HasSession, Work, Answer_lines, Check_certificate, Run_drawn, work_of, IsDone, AreWholeReplies, HasWholeReplies, HaveReplies, first_state, has_refused, after_lines, status_of}
 use Rattle.apsp_service.specs.Running.{RunEnds, RanToEnd, StoppedAfter, StoppedAmong}
-use Rattle.apsp_service.specs.Outcome.{status_after, IsStatus, IsCheck, IsLoad, IsAnswered, IsStoppedEarly, GotFront, IsCutShort, TookMoreThan, IsComplete, ReadToEnd, IsOutcome}
+use Rattle.apsp_service.specs.Outcome.{status_after, IsStatus, IsChecking, IsCheck, IsDrawing, IsLoad, IsAnswered, IsStoppedEarly, GotFront, IsCutShort, TookMoreThan, IsComplete, ReadToEnd, IsOutcome}
 use Rattle.apsp_service.specs.Ending.{IsShort, EndsAs}
 use Rattle.apsp_service.proofs.Checked.{one_checked}
 use Rattle.apsp_service.proofs.Lines.{whole_lines_is}
@@ -44,19 +45,20 @@ all_taken xs (Some ys) bytes taken last = taken ∙ ap (λ z. bytes ++ z) last �
 -- ---- the status of a session
 
 -- an input has one status
+status_done : (w : Work) (bytes t u : List ℕ) (a b : ℕ) → IsDone w bytes t a → IsDone w bytes u b → a ≡ b
+status_done (Answer_lines terms) bytes t u a b h k = h.1 ∙ sym k.1
+status_done Check_certificate bytes t u a b h k = (one_checked bytes t u a b h k).1
+status_done (Run_drawn n seed) bytes t u a b h k = h.1 ∙ sym k.1
+
 one_status : (m : Mode) (bytes t u : List ℕ) (a b : ℕ) → Session m bytes t a → Session m bytes u b → a ≡ b
-one_status (mode.Run workers smooth) bytes t u a b h k = h.1 ∙ sym k.1
-one_status (mode.Live workers readers slots smooth) bytes t u a b h k = h.1 ∙ sym k.1
-one_status mode.Check bytes t u a b h k = (one_checked bytes t u a b h k).1
-one_status (mode.Load n seed workers) bytes t u a b h k = h.1 ∙ sym k.1
+one_status m bytes t u a b h k = status_done (work_of m) bytes t u a b h k
 
 -- a mode reads its input, or its text does not depend on it
-reads_or_not : (m : Mode) → (IsLoad m → ⊥)
-    ⊎ ((bytes input text : List ℕ) (status : ℕ) → Session m bytes text status → Session m input text status)
-reads_or_not (mode.Run workers smooth) = inl (λ load. load)
-reads_or_not (mode.Live workers readers slots smooth) = inl (λ load. load)
-reads_or_not mode.Check = inl (λ load. load)
-reads_or_not (mode.Load n seed workers) = inr (λ bytes input text status h. h)
+reads_or_not : (w : Work) → (IsDrawing w → ⊥)
+    ⊎ ((bytes input text : List ℕ) (status : ℕ) → IsDone w bytes text status → IsDone w input text status)
+reads_or_not (Answer_lines terms) = inl (λ load. load)
+reads_or_not Check_certificate = inl (λ load. load)
+reads_or_not (Run_drawn n seed) = inr (λ bytes input text status h. h)
 
 -- ---- the outcome of each end
 
@@ -99,19 +101,18 @@ module _ (m : Mode) (before now : Streams) where
 
   -- in the mode that checks nothing was given before an early stop
   early_nothing : IsCheck m → IsStoppedEarly m before now → Appends before.sink.held now.sink.held []
-  early_nothing check s = at m check s.replies
+  early_nothing check s = at (work_of m) check s.replies
     where
-      at : (n : Mode) → IsCheck n → HasWholeReplies n (take MOST_INPUT s.bytes) s.text
+      at : (w : Work) → IsChecking w → AreWholeReplies w (take MOST_INPUT s.bytes) s.text
           → Appends before.sink.held now.sink.held []
-      at (mode.Run workers smooth) check replies = absurd check
-      at (mode.Live workers readers slots smooth) check replies = absurd check
-      at (mode.Load n seed workers) check replies = absurd check
-      at mode.Check check replies =
+      at (Answer_lines terms) check replies = absurd check
+      at (Run_drawn n seed) check replies = absurd check
+      at Check_certificate check replies =
           let F : List ℕ → Type 0 = λ t. Appends before.sink.held now.sink.held t in subst F replies s.given
 
   session_is : (status : ℕ) (a : IsAnswered m before now status) (input : List ℕ) → before.source.left ≡ Some input
       → (text : List ℕ) × Appends before.sink.held now.sink.held text × Session m input text status
-  session_is status a input told = elim (reads_or_not m) [
+  session_is status a input told = elim (reads_or_not (work_of m)) [
     | inl reads ↦
         let F : Option (List ℕ) → Type 0 = λ o. Consumes o now.source.left a.bytes in
         let same : input ≡ a.bytes = all_taken input now.source.left a.bytes (subst F told a.taken) (a.last reads) in
@@ -265,26 +266,13 @@ pub record IsOverLines (m : Mode) (start : State) : Type 0 where
   no_check : IsCheck m → ⊥
   no_load : IsLoad m → ⊥
 
-pub run_over : (workers : ℕ) (smooth : Bool) → IsOverLines (mode.Run workers smooth) (first_state None smooth)
-run_over workers smooth =
-    record {
-      session = λ bytes text status h. h;
-      whole = λ bytes text h. h;
-      no_check = λ check. check;
-      no_load = λ load.
-          load;
-    }
-
-pub live_over : (workers readers slots : ℕ) (smooth : Bool)
-    → IsOverLines (mode.Live workers readers slots smooth) (first_state (Some readers) smooth)
-live_over workers readers slots smooth =
-    record {
-      session = λ bytes text status h. h;
-      whole = λ bytes text h. h;
-      no_check = λ check. check;
-      no_load = λ load.
-          load;
-    }
+pub over_lines : (m : Mode) (terms : Terms) → work_of m ≡ Answer_lines terms → IsOverLines m (first_state terms)
+over_lines m terms is = record {
+  session = λ bytes text status h. let F : Work → Type 0 = λ w. IsDone w bytes text status in subst F (sym is) h;
+  whole = λ bytes text h. let F : Work → Type 0 = λ w. AreWholeReplies w bytes text in subst F (sym is) h;
+  no_check = subst (λ w. IsChecking w → ⊥) (sym is) (λ check. check);
+  no_load = subst (λ w. IsDrawing w → ⊥) (sym is) (λ load. load);
+}
 
 module _ (m : Mode) (start : State) (over : IsOverLines m start) (before now : Streams) where
   early_of : (bytes : List ℕ) → StoppedAfter start before now bytes → IsStoppedEarly m before now
@@ -348,12 +336,27 @@ of_words P read given m is same h =
     let F : Option Mode → Type 0 = λ o. IfSome o P in
     subst F (sym is ∙ same) h
 
--- the outcome of the mode `live`
-pub live_outcome : (workers readers slots : ℕ) (smooth : Bool) (start : State) (before now : Streams) (status : ℕ)
-    (r : Result Bool Stop) → start ≡ first_state (Some readers) smooth → status ≡ status_after r
-    → RunEnds start r before now → IsOutcome (mode.Live workers readers slots smooth) before now status
-live_outcome workers readers slots smooth start before now status r same is h =
-    let m = mode.Live workers readers slots smooth in
-    let F : State → Type 0 = λ s. RunEnds s r before now in
-    outcome_at m before now status r is (run_ends m (first_state (Some readers) smooth)
-    (live_over workers readers slots smooth) before now r (subst F same h))
+-- the outcome of a mode over lines
+lines_outcome : (m : Mode) (terms : Terms) (before now : Streams) (status : ℕ) (r : Result Bool Stop)
+    → work_of m ≡ Answer_lines terms → status ≡ status_after r → RunEnds (first_state terms) r before now
+    → IsOutcome m before now status
+lines_outcome m terms before now status r same is h =
+    outcome_at m before now status r is (run_ends m (first_state terms) (over_lines m terms same) before now r h)
+
+-- the terms of a mode that serves all commands
+abbrev IsServingAll : Option ℕ → Bool → Terms → Type 0
+IsServingAll readers smooth terms =
+    terms ≡ record { readers = readers; smooth = smooth; no_age = false; no_grow = false }
+
+pub run_ended : (workers : ℕ) (smooth : Bool) (terms : Terms) (before now : Streams) (r : Result Bool Stop)
+    → IsServingAll None smooth terms → RunEnds (first_state terms) r before now
+    → EndsAs (mode.Run workers smooth) r before now
+run_ended workers smooth terms before now r is h =
+    let m = mode.Run workers smooth in
+    run_ends m (first_state terms) (over_lines m terms (ap Answer_lines (sym is))) before now r h
+
+pub live_outcome : (workers readers slots : ℕ) (smooth : Bool) (terms : Terms) (before now : Streams) (status : ℕ)
+    (r : Result Bool Stop) → IsServingAll (Some readers) smooth terms → status ≡ status_after r
+    → RunEnds (first_state terms) r before now → IsOutcome (mode.Live workers readers slots smooth) before now status
+live_outcome workers readers slots smooth terms before now status r same is h =
+    lines_outcome (mode.Live workers readers slots smooth) terms before now status r (ap Answer_lines (sym same)) is h

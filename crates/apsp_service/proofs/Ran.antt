@@ -8,6 +8,7 @@ use Rattle.std.specs.Io.KnownBytes.{Consumes, Keeps, IsAtEnd, Appends}
 use Rattle.script_reader.specs.Input.{lines_of, line_if_some}
 use Rattle.network_replies.specs.Streams.{SourceSeen, SinkSeen, Streams}
 use Rattle.apsp_service.specs.declared.session.Session.{Session}
+use Rattle.apsp_service.specs.declared.terms.Terms.{Terms}
 use Rattle.network_replies.specs.declared.stop.Stop.{Stop}
 use Rattle.network_replies.specs.declared.stop.Stop.TheVariants as stop
 use Rattle.apsp_service.specs.declared.run.TheConstants.{MOST_INPUT}
@@ -45,8 +46,8 @@ consumes_kept (Some us) (Some vs) None xs h k = absurd k
 consumes_kept (Some us) (Some vs) (Some ws) xs h k = h ∙ ap (λ z. xs ++ z) (sym k)
 
 -- where a session begins
-pub opening_is : (a b : Option ℕ) (x y : Bool) → a ≡ b → x ≡ y → first_state a x ≡ first_state b y
-opening_is a b x y e f = λ i. first_state (e i) (f i)
+pub opening_is : (a b : Terms) → a ≡ b → first_state a ≡ first_state b
+opening_is a b e = ap first_state e
 
 module _ (start : State) (lawful : IsLawfulState start) where
   -- ---- what a stop leaves

@@ -4,7 +4,7 @@ use Rattle.std.specs.Prelude.{Bool, Option, Some, None, Result, Ok, Err}
 use Rattle.std.proofs.lemmas.Bool.{cases_lt}
 use Rattle.std.proofs.Math.ListN.{get_or-append}
 use Rattle.std.proofs.Math.Seq.{get_or-append_seam}
-use Rattle.apsp_model.specs.Graph.{Graph}
+use Rattle.apsp_model.specs.Graph.{Graph, IsGraph}
 use Rattle.apsp_model.specs.Grows.{GrowsFit}
 use Rattle.apsp_model.specs.Command.{Command, graph_of}
 use Rattle.apsp_model.specs.Walk.{weight_of}
@@ -16,15 +16,19 @@ use Rattle.certificate.proofs.Versions.{value_of, value_is}
 use Rattle.network_replies.specs.Certificate.{version_after}
 use Rattle.network_replies.specs.Distance.{IsDistance}
 use Rattle.network_replies.specs.Replies.{dist_text, row_text, path_text, stats_text, age_text, error_text}
+use Rattle.script_reader.specs.Answer.{FitsContext}
 use Rattle.script_reader.specs.Meaning.{line_of}
 use Rattle.script_reader.specs.Refused.{Refusal}
 use Rattle.script_reader.specs.declared.Line.{Line}
 use Rattle.script_reader.specs.declared.Line.TheVariants as line
-use Rattle.apsp_service.specs.Session.{State, HasReply, HasLineReply, HasAnswer, LineHasReply, HaveReplies, after_line, after_lines, context_of}
+use Rattle.network_replies.specs.Blocks.{Block}
+use Rattle.apsp_service.specs.declared.terms.Terms.{Terms}
+use Rattle.apsp_service.specs.Session.{State, HasReply, HasLineReply, HasAnswer, LineHasReply, HaveReplies, after_line, after_lines, context_at, context_of}
 use Rattle.apsp_service.specs.Giving.{IsFrontOfReplies}
 use Rattle.apsp_service.specs.Lawful.{IsLawfulState}
+use Rattle.network_replies.proofs.Reported.{ecc_exists, report_exists, through_exists}
 use Rattle.network_replies.proofs.Rows.{IsFirstRow, row_none, row_more}
-use Rattle.apsp_service.proofs.Lawful.{stars_fit, line_lawful, lines_lawful}
+use Rattle.apsp_service.proofs.Lawful.{updates_fit, present_graph_is, read_fits, line_lawful, lines_lawful}
 use Rattle.apsp_service.proofs.BlockAnswered.{block_reply_exists}
 
 -- ---- there are replies
@@ -49,68 +53,85 @@ age_exists n smooth commands fit list = elim (birth_exists n smooth commands fit
   | inr none ↦ (age_text list None, (None, none, refl))
 ]
 
-reply_exists : (n : ℕ) (smooth : Bool) (commands : List Command) → GrowsFit n commands → (l : Line) → (text : List ℕ)
+-- what the replies need to know of the commands
+record CanBeAsked (n : ℕ) (commands : List Command) : Type 0 where
+  fit : GrowsFit n commands
+  graph : 0 < (graph_of n commands).vertices → IsGraph (graph_of n commands)
+
+reply_exists : (n : ℕ) (smooth : Bool) (commands : List Command) (terms : Terms) (o : Option Block) → CanBeAsked n commands
+    → (l : Line) → FitsContext (context_at (graph_of n commands).vertices terms o) l → (text : List ℕ)
     × HasReply n smooth commands l text
-reply_exists n smooth commands fit line.Nothing = ([], refl)
-reply_exists n smooth commands fit (line.Vertices m) = ([], refl)
-reply_exists n smooth commands fit (line.Star star) = ([], refl)
-reply_exists n smooth commands fit (line.Edge u v w) = ([], refl)
-reply_exists n smooth commands fit (line.Cut u v) = ([], refl)
-reply_exists n smooth commands fit (line.Dist x y) =
+reply_exists n smooth commands terms o h line.Nothing f = ([], refl)
+reply_exists n smooth commands terms o h (line.Vertices m) f = ([], refl)
+reply_exists n smooth commands terms o h (line.Star star) f = ([], refl)
+reply_exists n smooth commands terms o h (line.Edge u v w) f = ([], refl)
+reply_exists n smooth commands terms o h (line.Cut u v) f = ([], refl)
+reply_exists n smooth commands terms o h (line.Grow m) f = ([], refl)
+reply_exists n smooth commands terms o h (line.Dist x y) f =
     let d = distance_exists (graph_of n commands) x y in (dist_text x y d.0, (d.0, d.1, refl))
-reply_exists n smooth commands fit (line.Path x y) =
+reply_exists n smooth commands terms o h (line.Path x y) f =
     let walk =
     least_is_some_option (graph_of n commands) x y in
     (path_text (graph_of n commands) x y walk.0, (walk.0, walk.1, refl))
-reply_exists n smooth commands fit (line.Row x) =
+reply_exists n smooth commands terms o h (line.Row x) f =
     let r = row_exists (graph_of n commands) x (graph_of n commands).vertices in
     (row_text x r.0, (r.0, record { size = r.1.size; each = r.1.each }, refl))
-reply_exists n smooth commands fit line.Block = ([], refl)
-reply_exists n smooth commands fit (line.Ask x y since) = ([], refl)
-reply_exists n smooth commands fit line.End = ([], refl)
-reply_exists n smooth commands fit line.Stats =
-    let c = counts_exist n smooth commands fit in (stats_text c.0, (c.0, c.1, refl))
-reply_exists n smooth commands fit (line.Age list) = age_exists n smooth commands fit list
-reply_exists n smooth commands fit line.Cert =
+reply_exists n smooth commands terms o h line.Block f = ([], refl)
+reply_exists n smooth commands terms o h (line.Ask x y since) f = ([], refl)
+reply_exists n smooth commands terms o h line.End f = ([], refl)
+reply_exists n smooth commands terms o h line.Stats f =
+    let c = counts_exist n smooth commands h.fit in (stats_text c.0, (c.0, c.1, refl))
+reply_exists n smooth commands terms o h (line.Age list) f = age_exists n smooth commands h.fit list
+reply_exists n smooth commands terms o h line.Cert f =
     let v = version_after n commands in (text_of (value_of v), (value_of v, value_is v, refl))
+reply_exists n smooth commands terms o h (line.Ecc x) f =
+    ecc_exists (graph_of n commands) x (h.graph (omega (arith, f.1))) f.1
+reply_exists n smooth commands terms o h line.Report f = report_exists (graph_of n commands) (h.graph f.1)
+reply_exists n smooth commands terms o h (line.Through v) f =
+    through_exists (graph_of n commands) v (h.graph (omega (arith, f.1)))
 
-line_reply_exists : (s : State) (l : Line) → IsLawfulState s → (text : List ℕ) × HasLineReply s l text
-line_reply_exists s line.End h = block_reply_exists s h
-line_reply_exists s line.Nothing h =
-    reply_exists s.vertices s.smooth s.commands (stars_fit s.vertices s.commands h.commands) line.Nothing
-line_reply_exists s (line.Vertices m) h =
-    reply_exists s.vertices s.smooth s.commands (stars_fit s.vertices s.commands h.commands) (line.Vertices m)
-line_reply_exists s (line.Star star) h =
-    reply_exists s.vertices s.smooth s.commands (stars_fit s.vertices s.commands h.commands) (line.Star star)
-line_reply_exists s (line.Edge u v w) h =
-    reply_exists s.vertices s.smooth s.commands (stars_fit s.vertices s.commands h.commands) (line.Edge u v w)
-line_reply_exists s (line.Cut u v) h =
-    reply_exists s.vertices s.smooth s.commands (stars_fit s.vertices s.commands h.commands) (line.Cut u v)
-line_reply_exists s (line.Dist x y) h =
-    reply_exists s.vertices s.smooth s.commands (stars_fit s.vertices s.commands h.commands) (line.Dist x y)
-line_reply_exists s (line.Path x y) h =
-    reply_exists s.vertices s.smooth s.commands (stars_fit s.vertices s.commands h.commands) (line.Path x y)
-line_reply_exists s (line.Row x) h =
-    reply_exists s.vertices s.smooth s.commands (stars_fit s.vertices s.commands h.commands) (line.Row x)
-line_reply_exists s line.Stats h =
-    reply_exists s.vertices s.smooth s.commands (stars_fit s.vertices s.commands h.commands) line.Stats
-line_reply_exists s (line.Age list) h =
-    reply_exists s.vertices s.smooth s.commands (stars_fit s.vertices s.commands h.commands) (line.Age list)
-line_reply_exists s line.Cert h =
-    reply_exists s.vertices s.smooth s.commands (stars_fit s.vertices s.commands h.commands) line.Cert
-line_reply_exists s line.Block h =
-    reply_exists s.vertices s.smooth s.commands (stars_fit s.vertices s.commands h.commands) line.Block
-line_reply_exists s (line.Ask x y since) h =
-    reply_exists s.vertices s.smooth s.commands (stars_fit s.vertices s.commands h.commands) (line.Ask x y since)
+line_reply_exists : (s : State) (l : Line) → IsLawfulState s → FitsContext (context_of s) l → (text : List ℕ)
+    × HasLineReply s l text
+line_reply_exists s l h f = at l f
+  where
+    read : CanBeAsked s.vertices s.commands
+    read = record { fit = updates_fit s.vertices s.commands h.most h.commands; graph = present_graph_is s h }
 
-answer_exists : (s : State) (read : Result Line Refusal) → IsLawfulState s → (text : List ℕ) × HasAnswer s read text
-answer_exists s (Ok l) h = line_reply_exists s l h
-answer_exists s (Err refusal) h = (error_text (s.lines + 1) refusal.code refusal.place, refl)
+    other : (l : Line) → FitsContext (context_of s) l → (text : List ℕ)
+        × HasReply s.vertices s.terms.smooth s.commands l text
+    other l f = reply_exists s.vertices s.terms.smooth s.commands s.terms s.block read l f
+
+    at : (l : Line) → FitsContext (context_of s) l → (text : List ℕ) × HasLineReply s l text
+    at line.End f = block_reply_exists s h
+    at line.Nothing f = other line.Nothing f
+    at (line.Vertices m) f = other (line.Vertices m) f
+    at (line.Star star) f = other (line.Star star) f
+    at (line.Edge u v w) f = other (line.Edge u v w) f
+    at (line.Cut u v) f = other (line.Cut u v) f
+    at (line.Grow m) f = other (line.Grow m) f
+    at (line.Dist x y) f = other (line.Dist x y) f
+    at (line.Path x y) f = other (line.Path x y) f
+    at (line.Row x) f = other (line.Row x) f
+    at line.Stats f = other line.Stats f
+    at (line.Age list) f = other (line.Age list) f
+    at line.Cert f = other line.Cert f
+    at (line.Ecc x) f = other (line.Ecc x) f
+    at line.Report f = other line.Report f
+    at (line.Through v) f = other (line.Through v) f
+    at line.Block f = other line.Block f
+    at (line.Ask x y since) f = other (line.Ask x y since) f
+
+answer_exists : (s : State) (bytes : List ℕ) → IsLawfulState s → (text : List ℕ) × LineHasReply s bytes text
+answer_exists s bytes h = at (line_of (context_of s) bytes) refl
+  where
+    at : (read : Result Line Refusal) → line_of (context_of s) bytes ≡ read → (text : List ℕ) × HasAnswer s read text
+    at (Ok l) e = line_reply_exists s l h (read_fits s bytes l h e)
+    at (Err refusal) e = (error_text (s.lines + 1) refusal.code refusal.place, refl)
 
 pub replies_exist : (s : State) (lines : List (List ℕ)) → IsLawfulState s → (text : List ℕ) × HaveReplies s lines text
 replies_exist s [] h = ([], refl)
 replies_exist s (bytes ∷ lines) h =
-    let first = answer_exists s (line_of (context_of s) bytes) h in
+    let first = answer_exists s bytes h in
     let others = replies_exist (after_line s bytes) lines (line_lawful s bytes h) in
     (first.0 ++ others.0, (first.0, others.0, first.1, others.1, refl))
 

@@ -1,7 +1,7 @@
 -- A session goes on standing for the lines that were read.
 use Rattle.std.proofs.Common.{◌≡◌, ℕ, ◌+◌, ◌<◌, ◌≤◌, ◌^◌, true, List, [], ◌∷◌, ◌++◌, length, length-append, append-nil, refl, sym, ap, subst, ◌∙◌, arith}
 use Rattle.std.specs.Prelude.{Bool, Option, Some, None, Result, Ok, Err, OnOk, IfOk, IfSome, IsSome, is_some, false}
-use Rattle.apsp_model.specs.Command.{Command, Star_update, graph_of}
+use Rattle.apsp_model.specs.Command.{Command, Star_update, Grow_update, graph_of}
 use Rattle.apsp_model.specs.Graph.{Graph}
 use Rattle.apsp_model.specs.Star.{Star}
 use Rattle.history_engine.specs.Seen.{EngineSeen}
@@ -15,17 +15,19 @@ use Rattle.script_reader.specs.declared.Line.TheVariants as line
 use Rattle.version_face.specs.Seen.{VersionSeen as Version}
 use Rattle.network_replies.specs.declared.stop.Stop.{Stop}
 use Rattle.network_replies.specs.Certificate.{version_of, version_after, IsTextOf}
-use Rattle.apsp_service.specs.Session.{State, HasReply, HasBlockReply, context_at, context_of, graph_here, accepted, counted, updated_in, begun_in, fresh_block, asked_in, ended_in, with_updates, after_read, after_line}
+use Rattle.apsp_service.specs.declared.terms.Terms.{Terms}
+use Rattle.apsp_service.specs.Session.{State, HasReply, HasBlockReply, context_at, context_of, present_graph, graph_here, accepted, counted, updated_in, begun_in, fresh_block, asked_in, ended_in, after_read, after_line}
 use Rattle.network_replies.specs.EdgeStar.{star_with}
 use Rattle.graph_store.specs.Plan.{Plan, with_star, hi_of}
 use Rattle.block_run.specs.declared.asks.Ask.{Ask}
 use Rattle.block_run.specs.declared.answers.Answer.{Answer}
-use Rattle.block_run.specs.Run.{AdvancesBy, CanRun, HasRun}
+use Rattle.block_run.proofs.Fronts.{stands_by}
+use Rattle.block_run.specs.Run.{AdvancesBy, CanRun, HasRun, with_updates}
 use Rattle.network_replies.specs.Blocks.{Block, last_graph, updates_in, asks_in}
 use Rattle.network_replies.specs.Replies.{answer_text}
 use Rattle.std.specs.List.{flat_map}
-use Rattle.apsp_service.specs.Lawful.{IsBlockOf, AreStars, IsLawfulState}
-use Rattle.apsp_service.proofs.Lawful.{accepted_lawful, graph_vertices, here_vertices, stars_more}
+use Rattle.apsp_service.specs.Lawful.{IsBlockOf, IsLawfulState}
+use Rattle.apsp_service.proofs.Lawful.{accepted_lawful, here_vertices, stars_more}
 use Rattle.script_reader.specs.Answer.{FitsContext}
 use Rattle.apsp_service.specs.declared.session.Session.{Session}
 use Rattle.apsp_service.specs.Giving.{HasNetwork, HasInside, IsNetworkOf, CanBeUpdated, CertificateGiven, vertices_in}
@@ -37,7 +39,7 @@ use Rattle.network_replies.proofs.Seen.{sink_at}
 pub with_line : (session : Session) (cutter : Cutting) (s : State) → HasState session s
     → HasState (record session { cutter = cutter }) s
 with_line session cutter s h =
-    record { inside = h.inside; readers = h.readers; smooth = h.smooth; lines = h.lines; refused = h.refused }
+    record { inside = h.inside; terms = h.terms; lines = h.lines; refused = h.refused }
 
 pub ready_of : (seen : Option EngineSeen) (s : State) → HasNetwork seen s → s.lines < 2 ^ 40 → CanBeUpdated seen
 ready_of None s h few = tt
@@ -45,37 +47,37 @@ ready_of (Some e) s h few = (h.stands.not_spent, omega (arith, h.few, few))
 
 -- what an accepted line does not change
 record Keeps (s t : State) : Type 0 where
-  smooth : t.smooth ≡ s.smooth
-  readers : t.readers ≡ s.readers
+  terms : t.terms ≡ s.terms
   lines : t.lines ≡ s.lines
   refused : t.refused ≡ s.refused
 
 kept_all : (s : State) → Keeps s s
-kept_all s = record { smooth = refl; readers = refl; lines = refl; refused = refl }
+kept_all s = record { terms = refl; lines = refl; refused = refl }
 
 updated_keeps : (s : State) (o : Option Block) (star : Star) → Keeps s (updated_in s o star)
-updated_keeps s None star = record { smooth = refl; readers = refl; lines = refl; refused = refl }
-updated_keeps s (Some b) star = record { smooth = refl; readers = refl; lines = refl; refused = refl }
+updated_keeps s None star = record { terms = refl; lines = refl; refused = refl }
+updated_keeps s (Some b) star = record { terms = refl; lines = refl; refused = refl }
 
 begun_keeps : (s : State) (r : Option ℕ) → Keeps s (begun_in s r)
 begun_keeps s None = kept_all s
-begun_keeps s (Some n) = record { smooth = refl; readers = refl; lines = refl; refused = refl }
+begun_keeps s (Some n) = record { terms = refl; lines = refl; refused = refl }
 
 asked_keeps : (s : State) (o : Option Block) (ask : Ask) → Keeps s (asked_in s o ask)
 asked_keeps s None ask = kept_all s
-asked_keeps s (Some b) ask = record { smooth = refl; readers = refl; lines = refl; refused = refl }
+asked_keeps s (Some b) ask = record { terms = refl; lines = refl; refused = refl }
 
 ended_keeps : (s : State) (o : Option Block) → Keeps s (ended_in s o)
 ended_keeps s None = kept_all s
-ended_keeps s (Some b) = record { smooth = refl; readers = refl; lines = refl; refused = refl }
+ended_keeps s (Some b) = record { terms = refl; lines = refl; refused = refl }
 
 accepted_keeps : (s : State) (l : Line) → Keeps s (accepted s l)
 accepted_keeps s line.Nothing = kept_all s
-accepted_keeps s (line.Vertices n) = record { smooth = refl; readers = refl; lines = refl; refused = refl }
+accepted_keeps s (line.Vertices n) = record { terms = refl; lines = refl; refused = refl }
 accepted_keeps s (line.Star star) = updated_keeps s s.block star
 accepted_keeps s (line.Edge u v w) = updated_keeps s s.block (star_with (graph_here s s.block) u v (Some w))
 accepted_keeps s (line.Cut u v) = updated_keeps s s.block (star_with (graph_here s s.block) u v None)
-accepted_keeps s line.Block = begun_keeps s s.readers
+accepted_keeps s (line.Grow m) = record { terms = refl; lines = refl; refused = refl }
+accepted_keeps s line.Block = begun_keeps s s.terms.readers
 accepted_keeps s (line.Ask x y since) = asked_keeps s s.block (record { x = x; y = y; since = since })
 accepted_keeps s line.End = ended_keeps s s.block
 accepted_keeps s (line.Dist x y) = kept_all s
@@ -84,39 +86,38 @@ accepted_keeps s (line.Row x) = kept_all s
 accepted_keeps s line.Stats = kept_all s
 accepted_keeps s (line.Age list) = kept_all s
 accepted_keeps s line.Cert = kept_all s
+accepted_keeps s (line.Ecc x) = kept_all s
+accepted_keeps s line.Report = kept_all s
+accepted_keeps s (line.Through v) = kept_all s
 
 -- the state after an accepted line
 pub line_stands : (s : State) (content : List ℕ) (l : Line) (session : Session) → line_of (context_of s) content ≡ Ok l
-    → HasInside session.network session.block (accepted (counted s) l) → session.readers ≡ s.readers
-    → session.smooth ≡ s.smooth → session.lines ≡ s.lines + 1 → session.refused ≡ s.refused
-    → HasState session (after_line s content)
-line_stands s content l session reading h readers smooth lines refused =
+    → HasInside session.network session.block (accepted (counted s) l) → session.terms ≡ s.terms
+    → session.lines ≡ s.lines + 1 → session.refused ≡ s.refused → HasState session (after_line s content)
+line_stands s content l session reading h terms lines refused =
     let F : Result Line Refusal → Type 0 = λ read. HasState session (after_read s read) in
     let k : Keeps (counted s) (accepted (counted s) l) = accepted_keeps (counted s) l in
     subst F (sym reading) (record {
       inside = h;
-      readers = readers ∙ sym k.readers;
-      smooth = smooth
-          ∙ sym k.smooth;
+      terms = terms ∙ sym k.terms;
       lines = lines ∙ sym k.lines;
       refused = refused ∙ sym k.refused;
     })
 
 pub line_stands_on : {E : Type 0} (r : Result (Unit {0}) E) (s : State) (content : List ℕ) (l : Line)
     (session : Session) → line_of (context_of s) content ≡ Ok l
-    → OnOk r (HasInside session.network session.block (accepted (counted s) l)) → session.readers ≡ s.readers
-    → session.smooth ≡ s.smooth → session.lines ≡ s.lines + 1 → session.refused ≡ s.refused
-    → OnOk r (HasState session (after_line s content))
-line_stands_on (Err e) s content l session reading h readers smooth lines refused = tt
-line_stands_on (Ok u) s content l session reading h readers smooth lines refused =
-    line_stands s content l session reading h readers smooth lines refused
+    → OnOk r (HasInside session.network session.block (accepted (counted s) l)) → session.terms ≡ s.terms
+    → session.lines ≡ s.lines + 1 → session.refused ≡ s.refused → OnOk r (HasState session (after_line s content))
+line_stands_on (Err e) s content l session reading h terms lines refused = tt
+line_stands_on (Ok u) s content l session reading h terms lines refused =
+    line_stands s content l session reading h terms lines refused
 
 -- a refused line
 pub refused_stands : (s : State) (content : List ℕ) (session : Session) (refusal : Refusal)
     → line_of (context_of s) content ≡ Err refusal → HasInside session.network session.block s
-    → session.readers ≡ s.readers → session.smooth ≡ s.smooth → session.lines ≡ s.lines + 1 → session.refused ≡ true
+    → session.terms ≡ s.terms → session.lines ≡ s.lines + 1 → session.refused ≡ true
     → HasState session (after_line s content)
-refused_stands s content session refusal reading h readers smooth lines refused =
+refused_stands s content session refusal reading h terms lines refused =
     let F : Result Line Refusal → Type 0 = λ read. HasState session (after_read s read) in
     subst F (sym reading) (record {
       inside = record {
@@ -131,8 +132,7 @@ refused_stands s content session refusal reading h readers smooth lines refused 
               = h.lawful.commands;
         };
       };
-      readers = readers;
-      smooth = smooth;
+      terms = terms;
       lines = lines;
       refused = refused;
     })
@@ -148,41 +148,37 @@ refused_stands s content session refusal reading h readers smooth lines refused 
 pub graph_is : (e : EngineSeen) (s : State) → IsNetworkOf e s → e.graph ≡ graph_of s.vertices s.commands
 graph_is e s h = h.stands.outline.graph ∙ ap (λ n. graph_of n s.commands) (sym h.vertices)
 
--- .. and its number of vertices
-present_is : (e : EngineSeen) (s : State) → IsNetworkOf e s → AreStars s.commands → e.graph.vertices ≡ s.vertices
-present_is e s k stars = ap (λ (g : Graph). g.vertices) (graph_is e s k) ∙ graph_vertices s.vertices s.commands stars
-
 pub vertices_are : (seen : Option EngineSeen) (open_block : Option Block) (s : State) → HasInside seen open_block s
-    → vertices_in seen ≡ s.vertices
+    → vertices_in seen ≡ (present_graph s).vertices
 vertices_are seen open_block s h = at seen h.network
   where
-    at : (e : Option EngineSeen) → HasNetwork e s → vertices_in e ≡ s.vertices
-    at None k = sym k.0
-    at (Some e) k = present_is e s k h.lawful.commands
+    at : (e : Option EngineSeen) → HasNetwork e s → vertices_in e ≡ (present_graph s).vertices
+    at None k = sym k.0 ∙ ap (λ commands. (graph_of s.vertices commands).vertices) (sym k.1)
+    at (Some e) k = ap (λ (g : Graph). g.vertices) (graph_is e s k)
 
 -- what the meaning of the next line depends on
 pub context_told : (session : Session) (s : State) → HasState session s
-    → context_at (vertices_in session.network) session.readers session.block ≡ context_of s
+    → context_at (vertices_in session.network) session.terms session.block ≡ context_of s
 context_told session s h =
-    λ i. context_at (vertices_are session.network session.block s h.inside i) (h.readers i) (h.inside.block i)
+    λ i. context_at (vertices_are session.network session.block s h.inside i) (h.terms i) (h.inside.block i)
 
 -- the fits of a line, for the state
-fits_state : (seen : Option EngineSeen) (open_block : Option Block) (readers : Option ℕ) (s : State) (l : Line)
-    → HasInside seen open_block s → FitsContext (context_at (vertices_in seen) readers open_block) l
-    → FitsContext (context_at s.vertices readers s.block) l
-fits_state seen open_block readers s l h f =
-    let F : ℕ → Type 0 = λ n. FitsContext (context_at n readers open_block) l in
-    let G : Option Block → Type 0 = λ o. FitsContext (context_at s.vertices readers o) l in
+fits_state : (seen : Option EngineSeen) (open_block : Option Block) (terms : Terms) (s : State) (l : Line)
+    → HasInside seen open_block s → FitsContext (context_at (vertices_in seen) terms open_block) l
+    → FitsContext (context_at (present_graph s).vertices terms s.block) l
+fits_state seen open_block terms s l h f =
+    let F : ℕ → Type 0 = λ n. FitsContext (context_at n terms open_block) l in
+    let G : Option Block → Type 0 = λ o. FitsContext (context_at (present_graph s).vertices terms o) l in
     subst G h.block (subst F (vertices_are seen open_block s h) f)
 
 counted_lawful : (s : State) → IsLawfulState s → IsLawfulState (counted s)
 counted_lawful s h = record { most = h.most; block = h.block; live = h.live; commands = h.commands }
 
-lawful_then : (seen : Option EngineSeen) (open_block : Option Block) (readers : Option ℕ) (s : State) (l : Line)
-    → HasInside seen open_block s → FitsContext (context_at (vertices_in seen) readers open_block) l
+lawful_then : (seen : Option EngineSeen) (open_block : Option Block) (terms : Terms) (s : State) (l : Line)
+    → HasInside seen open_block s → FitsContext (context_at (vertices_in seen) terms open_block) l
     → IsLawfulState (accepted (counted s) l)
-lawful_then seen open_block readers s l h f =
-    accepted_lawful (counted s) l (counted_lawful s h.lawful) readers (fits_state seen open_block readers s l h f)
+lawful_then seen open_block terms s l h f =
+    accepted_lawful (counted s) l (counted_lawful s h.lawful) terms (fits_state seen open_block terms s l h f)
 
 -- the version that the network has
 pub version_is : (e : EngineSeen) (s : State) → IsNetworkOf e s → version_of e ≡ version_after s.vertices s.commands
@@ -200,12 +196,6 @@ certificate_stands r seen e s old new before now is has given =
     subst G (version_is e s (subst F is has)) given
 
 -- ---- the updates of a block
-
-stands_by : (stars : List Star) (before after : EngineSeen) (commands : List Command) → AdvancesBy before stars after
-    → Stands before commands → Stands after (with_updates stars commands)
-stands_by [] before after commands a h = let F : EngineSeen → Type 0 = λ e. Stands e commands in subst F (sym a) h
-stands_by (star ∷ stars) before after commands a h =
-    stands_by stars a.0 after (Star_update star ∷ commands) a.2 (law before a.0 (Star_update star) commands a.1 h)
 
 record Moves (before : EngineSeen) (count : ℕ) (after : EngineSeen) : Type 0 where
   opening : after.opening ≡ before.opening
@@ -230,6 +220,12 @@ moves_by (star ∷ stars) before after a =
           omega (arith, m.vertices, ap length a.1.vertices, length-append before.vertices (Some star.vertex ∷ []));
     }
 
+-- the block that is open
+block_is : (e : EngineSeen) (s : State) (b : Block) → HasInside (Some e) (Some b) s → IsBlockOf s.vertices s.commands b
+block_is e s b h =
+    let F : Option Block → Type 0 = λ o. IfSome o (IsBlockOf s.vertices s.commands) in
+    subst F (sym h.block) h.lawful.block
+
 -- a block was run
 pub block_ran : (before after : EngineSeen) (s : State) (b : Block) → HasInside (Some before) (Some b) s
     → AdvancesBy before b.plan.stars after → HasInside (Some after) None (accepted (counted s) line.End)
@@ -252,8 +248,7 @@ block_ran before after s b h a =
         most = h.lawful.most;
         block = tt;
         live = λ none. refl;
-        commands = stars_more b.plan.stars
-            s.commands h.lawful.commands;
+        commands = stars_more s.vertices b.plan.stars s.commands h.lawful.commands (block_is before s b h).stars;
       };
     })
 
@@ -296,6 +291,24 @@ updated_outside (Ok u) before after s star h lawful a =
       asks = omega (arith, h.asks);
       lawful = l;
     }) lawful
+
+-- the network grew
+pub grown_outside : {E : Type 0} (r : Result (Unit {0}) E) (before after : EngineSeen) (s : State) (n : ℕ)
+    → HasInside (Some before) None s → IsLawfulState (accepted (counted s) (line.Grow n))
+    → OnOk r (Advance before (Grow_update n) after)
+    → OnOk r (HasInside (Some after) None (accepted (counted s) (line.Grow n)))
+grown_outside (Err e) before after s n h lawful a = tt
+grown_outside (Ok u) before after s n h lawful a = record {
+  network = record {
+    vertices = h.network.vertices ∙ sym a.opening;
+    smooth = a.smooth ∙ h.network.smooth;
+    stands = law before after (Grow_update n) s.commands a h.network.stands;
+    few = omega (arith, ap length a.vertices, length-append before.vertices (None ∷ []), h.network.few);
+  };
+  block = h.block;
+  asks = omega (arith, h.asks);
+  lawful = lawful;
+}
 
 pub edge_outside : {E : Type 0} (r : Result (Unit {0}) E) (before after : EngineSeen) (s : State) (u v : ℕ)
     (w : Option ℕ) → HasInside (Some before) None s
@@ -383,7 +396,7 @@ none_ran seen s h =
 
 -- a block was begun
 pub begun : (e : EngineSeen) (b : Block) (open_block : Option Block) (s : State) (n : ℕ)
-    → HasInside (Some e) open_block s → s.readers ≡ Some n
+    → HasInside (Some e) open_block s → s.terms.readers ≡ Some n
     → b ≡ record { plan = record { start = e.graph; lo = length e.vertices; stars = [] }; asks = [] }
     → IsLawfulState (accepted (counted s) line.Block) → HasInside (Some e) (Some b) (accepted (counted s) line.Block)
 begun e b open_block s n h readers is lawful =
@@ -410,29 +423,30 @@ begun e b open_block s n h readers is lawful =
     }) lawful
 
 pub begun_when : (seen : Option EngineSeen) (open_block : Option Block) (e : EngineSeen) (b : Block) (s : State)
-    (l : Line) (readers : Option ℕ) (start : Graph) (lo : ℕ) → l ≡ line.Block → seen ≡ Some e → is_some readers ≡ true
-    → readers ≡ s.readers → b ≡ record { plan = record { start = start; lo = lo; stars = [] }; asks = [] }
-    → start ≡ e.graph → lo ≡ length e.vertices → FitsContext (context_at (vertices_in seen) readers open_block) l
+    (l : Line) (terms : Terms) (start : Graph) (lo : ℕ) → l ≡ line.Block → seen ≡ Some e → is_some terms.readers ≡ true
+    → terms ≡ s.terms → b ≡ record { plan = record { start = start; lo = lo; stars = [] }; asks = [] }
+    → start ≡ e.graph → lo ≡ length e.vertices → FitsContext (context_at (vertices_in seen) terms open_block) l
     → HasInside seen open_block s → HasInside (Some e) (Some b) (accepted (counted s) l)
-begun_when seen open_block e b s l readers start lo is se live told fresh graph number fits h =
+begun_when seen open_block e b s l terms start lo is se live told fresh graph number fits h =
     let F : Option EngineSeen → Type 0 = λ z. HasInside z open_block s in
-    let G : Option EngineSeen → Type 0 = λ z. FitsContext (context_at (vertices_in z) readers open_block) l in
-    let H : Line → Type 0 = λ k. FitsContext (context_at (vertices_in (Some e)) readers open_block) k in
+    let G : Option EngineSeen → Type 0 = λ z. FitsContext (context_at (vertices_in z) terms open_block) l in
+    let H : Line → Type 0 = λ k. FitsContext (context_at (vertices_in (Some e)) terms open_block) k in
     let K : Line → Type 0 = λ k. HasInside (Some e) (Some b) (accepted (counted s) k) in
-    subst K (sym is) (at readers told live (subst F se h) (subst H is (subst G se fits)))
+    let readers : terms.readers ≡ s.terms.readers = ap (λ (t : Terms). t.readers) told in
+    subst K (sym is) (at terms.readers readers live (subst F se h) (subst H is (subst G se fits)))
   where
     same : b ≡ record { plan = record { start = e.graph; lo = length e.vertices; stars = [] }; asks = [] }
     same = fresh ∙ (λ i. record { plan = record { start = graph i; lo = number i; stars = [] }; asks = [] })
 
-    at : (rd : Option ℕ) → rd ≡ s.readers → is_some rd ≡ true → HasInside (Some e) open_block s
-        → FitsContext (context_at (vertices_in (Some e)) readers open_block) line.Block
+    at : (rd : Option ℕ) → rd ≡ s.terms.readers → is_some rd ≡ true → HasInside (Some e) open_block s
+        → FitsContext (context_at (vertices_in (Some e)) terms open_block) line.Block
         → HasInside (Some e) (Some b) (accepted (counted s) line.Block)
     at None k l h f = absurd (let no : false ≡ true = l in cc)
     at (Some n) k l h f =
-        begun e b open_block s n h (sym k) same (lawful_then (Some e) open_block readers s line.Block h f)
+        begun e b open_block s n h (sym k) same (lawful_then (Some e) open_block terms s line.Block h f)
 
 pub not_begun : (seen : Option EngineSeen) (open_block : Option Block) (s : State) → HasInside seen open_block s
-    → s.readers ≡ None → HasInside seen open_block (accepted (counted s) line.Block)
+    → s.terms.readers ≡ None → HasInside seen open_block (accepted (counted s) line.Block)
 not_begun seen open_block s h none =
     let F : Option ℕ → Type 0 = λ r. HasInside seen open_block (begun_in (counted s) r) in
     subst F (sym none) (counted_inside seen open_block s h)
@@ -457,8 +471,7 @@ ran_replies (Ok a) n readers before after s b h some run =
 -- the block may be run
 pub can_run : (e : EngineSeen) (s : State) (b : Block) → HasInside (Some e) (Some b) s → CanRun e b.plan b.asks
 can_run e s b h =
-    let F : Option Block → Type 0 = λ o. IfSome o (IsBlockOf s.vertices s.commands) in
-    let k : IsBlockOf s.vertices s.commands b = subst F (sym h.block) h.lawful.block in
+    let k = block_is e s b h in
     record {
       not_spent = h.network.stands.not_spent;
       start = record {
@@ -469,10 +482,10 @@ can_run e s b h =
       asks_of = k.asks;
     }
 
-pub some_readers : (seen : Option EngineSeen) (b : Block) (s : State) → HasInside seen (Some b) s → IsSome s.readers
-some_readers seen b s h = at s.readers refl
+pub some_readers : (seen : Option EngineSeen) (b : Block) (s : State) → HasInside seen (Some b) s → IsSome s.terms.readers
+some_readers seen b s h = at s.terms.readers refl
   where
-    at : (r : Option ℕ) → s.readers ≡ r → IsSome r
+    at : (r : Option ℕ) → s.terms.readers ≡ r → IsSome r
     at None e = absurd (let k : Some b ≡ None = h.block ∙ h.lawful.live e in cc)
     at (Some n) e = refl
 
@@ -486,7 +499,7 @@ inside_as seen open_block e b s se ob h =
 -- the end of a block, where the session before it is that of some state
 module _ {E : Type 0} (r : Result (List Answer) E) (seen : Option EngineSeen) (open_block : Option Block)
     (readers : Option ℕ) (before after : EngineSeen) (b : Block) (s0 s : State) (was : HasInside seen open_block s0)
-    (told : s0.readers ≡ readers) (se : seen ≡ Some before) (ob : open_block ≡ Some b)
+    (told : s0.terms.readers ≡ readers) (se : seen ≡ Some before) (ob : open_block ≡ Some b)
     (run : (x : ℕ) → readers ≡ Some x → HasRun x before b.plan b.asks r after) (h : HasInside seen open_block s) where
   pub end_stands : (left : Option Block) → left ≡ None
       → IfOk r (λ _. HasInside (Some after) left (accepted (counted s) line.End))
@@ -513,64 +526,75 @@ pub block_vertices : (seen : Option EngineSeen) (open_block : Option Block) (e :
     → (last_graph b.plan).vertices ≡ e.graph.vertices
 block_vertices seen open_block e b s se ob was =
     let h = inside_as seen open_block e b s se ob was in
-    let F : Option Block → Type 0 = λ o. (graph_here s o).vertices ≡ s.vertices in
-    subst F (sym h.block) (here_vertices s h.lawful) ∙ sym (present_is e s h.network h.lawful.commands)
+    let F : Option Block → Type 0 = λ o. (graph_here s o).vertices ≡ (present_graph s).vertices in
+    subst F (sym h.block) (here_vertices s h.lawful) ∙ sym (vertices_are (Some e) (Some b) s h)
 
-pub fits_in : (seen : Option EngineSeen) (open_block : Option Block) (readers : Option ℕ) (e : EngineSeen) (b : Block)
+pub fits_in : (seen : Option EngineSeen) (open_block : Option Block) (terms : Terms) (e : EngineSeen) (b : Block)
     (l : Line) → seen ≡ Some e → open_block ≡ Some b → (last_graph b.plan).vertices ≡ e.graph.vertices
-    → FitsContext (context_at (vertices_in seen) readers open_block) l
-    → FitsContext (context_at (last_graph b.plan).vertices readers (Some b)) l
-fits_in seen open_block readers e b l se ob same f =
-    let F : Option EngineSeen → Type 0 = λ z. FitsContext (context_at (vertices_in z) readers open_block) l in
-    let G : Option Block → Type 0 = λ o. FitsContext (context_at e.graph.vertices readers o) l in
-    let H : ℕ → Type 0 = λ n. FitsContext (context_at n readers (Some b)) l in
+    → FitsContext (context_at (vertices_in seen) terms open_block) l
+    → FitsContext (context_at (last_graph b.plan).vertices terms (Some b)) l
+fits_in seen open_block terms e b l se ob same f =
+    let F : Option EngineSeen → Type 0 = λ z. FitsContext (context_at (vertices_in z) terms open_block) l in
+    let G : Option Block → Type 0 = λ o. FitsContext (context_at e.graph.vertices terms o) l in
+    let H : ℕ → Type 0 = λ n. FitsContext (context_at n terms (Some b)) l in
     subst H (sym same) (subst G ob (subst F se f))
 
-pub lawful_at : (seen : EngineSeen) (open_block : Option Block) (readers : Option ℕ) (s : State) (l : Line)
-    → HasInside (Some seen) open_block s → FitsContext (context_at seen.graph.vertices readers open_block) l
-    → IsLawfulState (accepted (counted s) l)
-lawful_at seen open_block readers s l h f = lawful_then (Some seen) open_block readers s l h f
+pub fits_out : (seen : Option EngineSeen) (open_block : Option Block) (terms : Terms) (e : EngineSeen) (l : Line)
+    → seen ≡ Some e → open_block ≡ None → FitsContext (context_at (vertices_in seen) terms open_block) l
+    → FitsContext (context_at e.graph.vertices terms None) l
+fits_out seen open_block terms e l se ob f =
+    let F : Option EngineSeen → Type 0 = λ z. FitsContext (context_at (vertices_in z) terms open_block) l in
+    let G : Option Block → Type 0 = λ o. FitsContext (context_at e.graph.vertices terms o) l in
+    subst G ob (subst F se f)
 
-pub lawful_inside : (e : EngineSeen) (b : Block) (readers : Option ℕ) (s : State) (l : Line)
-    → HasInside (Some e) (Some b) s → FitsContext (context_at (last_graph b.plan).vertices readers (Some b)) l
+pub lawful_at : (seen : EngineSeen) (open_block : Option Block) (terms : Terms) (s : State) (l : Line)
+    → HasInside (Some seen) open_block s → FitsContext (context_at seen.graph.vertices terms open_block) l
     → IsLawfulState (accepted (counted s) l)
-lawful_inside e b readers s l h f =
-    let F : ℕ → Type 0 = λ n. FitsContext (context_at n readers (Some b)) l in
-    lawful_then (Some e) (Some b) readers s l h (subst F (block_vertices (Some e) (Some b) e b s refl refl h) f)
+lawful_at seen open_block terms s l h f = lawful_then (Some seen) open_block terms s l h f
+
+pub lawful_inside : (e : EngineSeen) (b : Block) (terms : Terms) (s : State) (l : Line)
+    → HasInside (Some e) (Some b) s → FitsContext (context_at (last_graph b.plan).vertices terms (Some b)) l
+    → IsLawfulState (accepted (counted s) l)
+lawful_inside e b terms s l h f =
+    let F : ℕ → Type 0 = λ n. FitsContext (context_at n terms (Some b)) l in
+    lawful_then (Some e) (Some b) terms s l h (subst F (block_vertices (Some e) (Some b) e b s refl refl h) f)
 
 -- the plan of the open block has room for one update more
 pub room_in : (seen : Option EngineSeen) (open_block : Option Block) (e : EngineSeen) (b : Block) (s : State)
     → seen ≡ Some e → open_block ≡ Some b → HasInside seen open_block s → s.lines < 2 ^ 40 → hi_of b.plan < 2 ^ 40
 room_in seen open_block e b s se ob was few_lines =
     let h = inside_as seen open_block e b s se ob was in
-    let F : Option Block → Type 0 = λ o. IfSome o (IsBlockOf s.vertices s.commands) in
     let G : Option Block → Type 0 = λ o. length e.vertices + updates_in o ≤ s.lines in
-    let k : IsBlockOf s.vertices s.commands b = subst F (sym h.block) h.lawful.block in
+    let k = block_is e s b h in
     let few : length e.vertices + length b.plan.stars ≤ s.lines = subst G (sym h.block) h.network.few in
     omega (arith, few, few_lines, ap length h.network.stands.outline.vertices, k.lo)
 
 -- a line that fits in a block has no reply
-pub silent_inside : (n m : ℕ) (smooth : Bool) (commands : List Command) (readers : Option ℕ) (b : Block) (l : Line)
-    → FitsContext (context_at n readers (Some b)) l → HasReply m smooth commands l []
-silent_inside n m smooth commands readers b line.Nothing f = refl
-silent_inside n m smooth commands readers b (line.Vertices k) f = refl
-silent_inside n m smooth commands readers b (line.Star star) f = refl
-silent_inside n m smooth commands readers b (line.Edge u v w) f = refl
-silent_inside n m smooth commands readers b (line.Cut u v) f = refl
-silent_inside n m smooth commands readers b (line.Dist x y) f = absurd (let no : true ≡ false = f.0 in cc)
-silent_inside n m smooth commands readers b (line.Path x y) f = absurd (let no : true ≡ false = f.0 in cc)
-silent_inside n m smooth commands readers b (line.Row x) f = absurd (let no : true ≡ false = f.0 in cc)
-silent_inside n m smooth commands readers b line.Stats f = absurd (let no : true ≡ false = f.0 in cc)
-silent_inside n m smooth commands readers b (line.Age list) f = absurd (let no : true ≡ false = f.0 in cc)
-silent_inside n m smooth commands readers b line.Cert f = absurd (let no : true ≡ false = f.0 in cc)
-silent_inside n m smooth commands readers b line.Block f = refl
-silent_inside n m smooth commands readers b (line.Ask x y since) f = refl
-silent_inside n m smooth commands readers b line.End f = refl
+pub silent_inside : (n m : ℕ) (smooth : Bool) (commands : List Command) (terms : Terms) (b : Block) (l : Line)
+    → FitsContext (context_at n terms (Some b)) l → HasReply m smooth commands l []
+silent_inside n m smooth commands terms b line.Nothing f = refl
+silent_inside n m smooth commands terms b (line.Vertices k) f = refl
+silent_inside n m smooth commands terms b (line.Star star) f = refl
+silent_inside n m smooth commands terms b (line.Edge u v w) f = refl
+silent_inside n m smooth commands terms b (line.Cut u v) f = refl
+silent_inside n m smooth commands terms b (line.Dist x y) f = absurd (let no : true ≡ false = f.0 in cc)
+silent_inside n m smooth commands terms b (line.Path x y) f = absurd (let no : true ≡ false = f.0 in cc)
+silent_inside n m smooth commands terms b (line.Row x) f = absurd (let no : true ≡ false = f.0 in cc)
+silent_inside n m smooth commands terms b line.Stats f = absurd (let no : true ≡ false = f.0 in cc)
+silent_inside n m smooth commands terms b (line.Age list) f = absurd (let no : true ≡ false = f.0 in cc)
+silent_inside n m smooth commands terms b line.Cert f = absurd (let no : true ≡ false = f.0 in cc)
+silent_inside n m smooth commands terms b (line.Grow k) f = refl
+silent_inside n m smooth commands terms b (line.Ecc x) f = absurd (let no : true ≡ false = f.0 in cc)
+silent_inside n m smooth commands terms b line.Report f = absurd (let no : true ≡ false = f.0 in cc)
+silent_inside n m smooth commands terms b (line.Through v) f = absurd (let no : true ≡ false = f.0 in cc)
+silent_inside n m smooth commands terms b line.Block f = refl
+silent_inside n m smooth commands terms b (line.Ask x y since) f = refl
+silent_inside n m smooth commands terms b line.End f = refl
 
 -- what is said of the network's number of vertices and smoothing holds of those of the state
 pub of_network : {E : Type 0} (r : Result (Unit {0}) E) (P : ℕ → Bool → List ℕ → Type 0) (e : EngineSeen) (s : State)
     (old new : List ℕ) → IsNetworkOf e s → OnOk r (GrowsBy (P e.opening e.smooth) old new)
-    → OnOk r (GrowsBy (P s.vertices s.smooth) old new)
+    → OnOk r (GrowsBy (P s.vertices s.terms.smooth) old new)
 of_network r P e s old new h grows =
     let F : ℕ → Type 0 = λ n. OnOk r (GrowsBy (P n e.smooth) old new) in
     let G : Bool → Type 0 = λ b. OnOk r (GrowsBy (P s.vertices b) old new) in

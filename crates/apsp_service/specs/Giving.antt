@@ -75,7 +75,7 @@ IsRepliedBy (reply.Answers answers) s content text = LineHasReply s content (fla
 -- updates of the open block; before the line `vertices` there is none
 pub record IsNetworkOf (e : EngineSeen) (s : State) : Type 0 where
   pub vertices : s.vertices ≡ e.opening
-  pub smooth : e.smooth ≡ s.smooth
+  pub smooth : e.smooth ≡ s.terms.smooth
   pub stands : Stands e s.commands
   pub few : length e.vertices + updates_in s.block ≤ s.lines
 

@@ -1,7 +1,7 @@
 -- The session: what is replied to the lines of an input, and with which status it ends.
 use Rattle.std.specs.Prelude.{◌≡◌, ℕ, ◌+◌, Bool, true, false, List, [], ◌∷◌, ◌++◌, length, is_some, ◌||◌, Option, Some, None, Result, Ok, Err, if◌then◌else◌}
 use Rattle.std.specs.List.{flat_map}
-use Rattle.apsp_model.specs.Command.{Command, Star_update, graph_of, vertices_of}
+use Rattle.apsp_model.specs.Command.{Command, Star_update, Grow_update, graph_of, vertices_of}
 use Rattle.apsp_model.specs.Graph.{Graph}
 use Rattle.apsp_model.specs.Star.{Star}
 use Rattle.script_reader.specs.Input.{lines_of, whole_lines}
@@ -18,54 +18,58 @@ use Rattle.network_replies.specs.Path.{IsPathReply}
 use Rattle.network_replies.specs.Stats.{IsStatsReply}
 use Rattle.network_replies.specs.Age.{IsAgeReply}
 use Rattle.network_replies.specs.Certificate.{IsCertReply}
+use Rattle.network_replies.specs.Reporting.{IsEccReply, IsReportReply, IsThroughReply}
+use Rattle.apsp_service.specs.declared.terms.Terms.{Terms}
 use Rattle.apsp_service.specs.Check.{IsChecked}
 use Rattle.apsp_service.specs.Load.{IsLoadReply}
 use Rattle.network_replies.specs.Replies.{error_text, answer_text}
 use Rattle.graph_store.specs.Plan.{with_star}
 use Rattle.network_replies.specs.Blocks.{Block, last_graph, updates_in, asks_in}
 use Rattle.block_run.specs.Answers.{BlockReply}
+use Rattle.block_run.specs.Run.{with_updates}
 use Rattle.block_run.specs.declared.asks.Ask.{Ask}
 use Rattle.block_run.specs.declared.answers.Answer.{Answer}
 use Rattle.script_reader.specs.declared.code.TheConstants.{OPEN_BLOCK}
 
--- after some lines: the number of vertices, 0 before the line `vertices`; whether smoothing is on; how many
--- readers a block has, and none where there are no blocks; the commands so far, the latest first; the block
--- that is open; how many lines there were; and whether one of them was refused
+-- after some lines: the terms of the session; the opening number of vertices, that of the line `vertices`, and 0
+-- before it; the commands so far, the latest first; the block that is open; how many lines there were; and whether
+-- one of them was refused
 pub record State : Type 0 where
+  pub terms : Terms
   pub vertices : ℕ
-  pub smooth : Bool
-  pub readers : Option ℕ
   pub commands : List Command
   pub block : Option Block
   pub lines : ℕ
   pub refused : Bool
 
-abbrev pub first_state : Option ℕ → Bool → State
-first_state readers smooth = record {
+abbrev pub first_state : Terms → State
+first_state terms = record {
+  terms = terms;
   vertices = 0;
-  smooth = smooth;
-  readers = readers;
   commands = [];
   block = None;
   lines = 0;
   refused = false;
 }
 
-abbrev pub context_at : ℕ → Option ℕ → Option Block → Context
-context_at n readers block = record {
+abbrev pub context_at : ℕ → Terms → Option Block → Context
+context_at n terms block = record {
   vertices = n;
-  live = is_some readers;
+  live = is_some terms.readers;
   inside = is_some block;
   updates = updates_in block;
   asks = asks_in block;
+  no_age = terms.no_age;
+  no_grow = terms.no_grow;
 }
-
-abbrev pub context_of : State → Context
-context_of s = context_at s.vertices s.readers s.block
 
 -- the graph after the commands so far
 abbrev pub present_graph : State → Graph
 present_graph s = graph_of s.vertices s.commands
+
+-- the number of vertices that a line sees is the present one
+abbrev pub context_of : State → Context
+context_of s = context_at (present_graph s).vertices s.terms s.block
 
 -- the graph that the next update changes: in a block it is that after the block's updates so far
 abbrev pub graph_here : State → Option Block → Graph
@@ -94,11 +98,6 @@ abbrev pub asked_in : State → Option Block → Ask → State
 asked_in s None ask = s
 asked_in s (Some b) ask = record s { block = Some (record b { asks = b.asks ++ ask ∷ [] }) }
 
--- the commands with the updates of these stars behind them
-abbrev pub with_updates : List Star → List Command → List Command
-with_updates [] commands = commands
-with_updates (star ∷ stars) commands = with_updates stars (Star_update star ∷ commands)
-
 -- a block that is run appends its updates to the commands, whatever was answered
 abbrev pub ended_in : State → Option Block → State
 ended_in s None = s
@@ -111,7 +110,8 @@ accepted s (line.Vertices n) = record s { vertices = n; commands = []; block = N
 accepted s (line.Star star) = updated s star
 accepted s (line.Edge u v w) = updated s (star_with (graph_here s s.block) u v (Some w))
 accepted s (line.Cut u v) = updated s (star_with (graph_here s s.block) u v None)
-accepted s line.Block = begun_in s s.readers
+accepted s (line.Grow n) = record s { commands = Grow_update n ∷ s.commands }
+accepted s line.Block = begun_in s s.terms.readers
 accepted s (line.Ask x y since) = asked_in s s.block (record { x = x; y = y; since = since })
 accepted s line.End = ended_in s s.block
 accepted s _ = s
@@ -127,7 +127,7 @@ after_read s (Err refusal) = record (counted s) { refused = true }
 abbrev pub after_line : State → List ℕ → State
 after_line s bytes = after_read s (line_of (context_of s) bytes)
 
--- the reply to an accepted line, after these commands on n vertices, with or without smoothing
+-- the reply to an accepted line, after these commands on n vertices at first, with or without smoothing
 abbrev pub HasReply : ℕ → Bool → List Command → Line → List ℕ → Type 0
 HasReply n smooth commands (line.Dist x y) text = IsDistReply (graph_of n commands) x y text
 HasReply n smooth commands (line.Path x y) text = IsPathReply (graph_of n commands) x y text
@@ -135,6 +135,9 @@ HasReply n smooth commands (line.Row x) text = IsRowReply (graph_of n commands) 
 HasReply n smooth commands line.Stats text = IsStatsReply n smooth commands text
 HasReply n smooth commands (line.Age list) text = IsAgeReply n smooth commands list text
 HasReply n smooth commands line.Cert text = IsCertReply n commands text
+HasReply n smooth commands (line.Ecc x) text = IsEccReply (graph_of n commands) x text
+HasReply n smooth commands line.Report text = IsReportReply (graph_of n commands) text
+HasReply n smooth commands (line.Through v) text = IsThroughReply (graph_of n commands) v text
 HasReply n smooth commands _ text = text ≡ []
 
 -- the reply to a block, where so many readers answer it: answers that its questions may get
@@ -144,8 +147,8 @@ HasBlockReply (Some readers) (Some b) text =
 HasBlockReply _ _ text = text ≡ []
 
 abbrev pub HasLineReply : State → Line → List ℕ → Type 0
-HasLineReply s line.End text = HasBlockReply s.readers s.block text
-HasLineReply s l text = HasReply s.vertices s.smooth s.commands l text
+HasLineReply s line.End text = HasBlockReply s.terms.readers s.block text
+HasLineReply s l text = HasReply s.vertices s.terms.smooth s.commands l text
 
 abbrev pub HasAnswer : State → Result Line Refusal → List ℕ → Type 0
 HasAnswer s (Ok l) text = HasLineReply s l text
@@ -189,20 +192,38 @@ abbrev pub HasSession : State → List ℕ → List ℕ → ℕ → Type 0
 HasSession start bytes text status =
     HaveAllReplies start (lines_of bytes) text × (status ≡ status_of (after_lines start (lines_of bytes)))
 
+-- what a mode does: it answers the lines of its input on these terms, or says what holds of a certificate, or runs
+-- the input that a seed draws on n vertices
+pub data Work : Type 0 where
+  Answer_lines : Terms → Work
+  Check_certificate : Work
+  Run_drawn : ℕ → ℕ → Work
+
+abbrev pub work_of : Mode → Work
+work_of (mode.Run workers smooth) =
+    Answer_lines (record { readers = None; smooth = smooth; no_age = false; no_grow = false })
+work_of (mode.Live workers readers slots smooth) =
+    Answer_lines (record { readers = Some readers; smooth = smooth; no_age = false; no_grow = false })
+work_of mode.Check = Check_certificate
+work_of (mode.Load n seed workers) = Run_drawn n seed
+
+abbrev pub IsDone : Work → List ℕ → List ℕ → ℕ → Type 0
+IsDone (Answer_lines terms) bytes text status = HasSession (first_state terms) bytes text status
+IsDone Check_certificate bytes text status = IsChecked bytes text status
+IsDone (Run_drawn n seed) bytes text status = IsLoadReply n seed text × (status ≡ 0)
+
 -- an input of these bytes has this text and this status
 abbrev pub Session : Mode → List ℕ → List ℕ → ℕ → Type 0
-Session (mode.Run workers smooth) bytes text status = HasSession (first_state None smooth) bytes text status
-Session (mode.Live workers readers slots smooth) bytes text status =
-    HasSession (first_state (Some readers) smooth) bytes text status
-Session mode.Check bytes text status = IsChecked bytes text status
-Session (mode.Load n seed workers) bytes text status = IsLoadReply n seed text × (status ≡ 0)
+Session mode bytes text status = IsDone (work_of mode) bytes text status
 
--- whether the answers of a mode may hang on the schedule
+-- whether the answers may hang on the schedule
+abbrev pub may_block : Work → Bool
+may_block (Answer_lines terms) = is_some terms.readers
+may_block Check_certificate = false
+may_block (Run_drawn n seed) = false
+
 abbrev pub has_blocks : Mode → Bool
-has_blocks (mode.Run workers smooth) = false
-has_blocks (mode.Live workers readers slots smooth) = true
-has_blocks mode.Check = false
-has_blocks (mode.Load n seed workers) = false
+has_blocks mode = may_block (work_of mode)
 
 -- there is a text and a status that the session has for these bytes, and no other
 pub record HasOneText (mode : Mode) (bytes : List ℕ) : Type 0 where
@@ -218,10 +239,11 @@ pub record HasOneStatus (mode : Mode) (bytes : List ℕ) : Type 0 where
   pub session : Session mode bytes text status
   pub only : (other : List ℕ) (ended : ℕ) → Session mode bytes other ended → ended ≡ status
 
--- the replies to whole lines alone; the modes without lines have none before their end
+-- the replies to whole lines alone; work without lines has none before its end
+abbrev pub AreWholeReplies : Work → List ℕ → List ℕ → Type 0
+AreWholeReplies (Answer_lines terms) bytes text = HaveReplies (first_state terms) (whole_lines bytes) text
+AreWholeReplies Check_certificate bytes text = text ≡ []
+AreWholeReplies (Run_drawn n seed) bytes text = text ≡ []
+
 abbrev pub HasWholeReplies : Mode → List ℕ → List ℕ → Type 0
-HasWholeReplies (mode.Run workers smooth) bytes text = HaveReplies (first_state None smooth) (whole_lines bytes) text
-HasWholeReplies (mode.Live workers readers slots smooth) bytes text =
-    HaveReplies (first_state (Some readers) smooth) (whole_lines bytes) text
-HasWholeReplies mode.Check bytes text = text ≡ []
-HasWholeReplies (mode.Load n seed workers) bytes text = text ≡ []
+HasWholeReplies mode bytes text = AreWholeReplies (work_of mode) bytes text

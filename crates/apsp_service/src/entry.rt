@@ -12,6 +12,7 @@ ghost use Rattle.apsp_service.specs.Ending.{EndsAs};
 use crate::check::check_input;
 use crate::load::load;
 use crate::run::{MOST_INPUT, run};
+use crate::terms::Terms;
 use apsp_io::{Gate, Sink, Source};
 use apsp_model::Memory;
 use block_run::{Asks, BlockAnswers, live_block};
@@ -100,7 +101,7 @@ fn run_as<S: Source, K: Sink, G: Gate, R: Threads + Sync>(
         Mode::Run { workers, smooth } => {
             let blocks = NoBlocks;
             let executor = Executor::new(rt, *workers, gate, &blocks);
-            run(alloc, &executor, *smooth, source, sink)
+            run(alloc, &executor, terms(None, *smooth), source, sink)
         }
         Mode::Check => check_input(alloc, source, sink),
         Mode::Load { n, seed, workers } => load(rt, alloc, *n, *seed, *workers, sink, gate),
@@ -183,10 +184,22 @@ pub fn top<S: Source, K: Sink, G: Gate, R: Threads + Wait + Sync>(
             { live_block(rt, alloc, engine, plan, asks, readers, slots, workers, gate) };
             let blocks = LiveBlocks::new(readers, &run_one);
             let executor = Executor::new(rt, workers, gate, &blocks);
-            status(run(alloc, &executor, smooth, source, sink))
+            status(run(alloc, &executor, terms(Some(readers), smooth), source, sink))
         }
         Some(mode) => script(rt, alloc, &mode, source, sink, gate),
         None => 2,
+    }
+}
+
+/// The terms of a mode that serves all commands, with so many readers of a block if it has blocks.
+fn terms(readers: Option<u32>, smooth: bool) -> Terms
+    ensures { result ≡ record { readers = readers; smooth = smooth; no_age = false; no_grow = false } }
+{
+    Terms {
+        readers,
+        smooth,
+        no_age: false,
+        no_grow: false,
     }
 }
 

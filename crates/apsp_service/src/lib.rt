@@ -8,6 +8,7 @@ pub mod laws;
 mod load;
 mod run;
 mod session;
+mod terms;
 
 pub use command_line::{Mode, read_words};
 pub use entry::{script, top};

@@ -8,6 +8,7 @@ ghost use Rattle.apsp_service.specs.Lawful.{IsLawfulState};
 ghost use Rattle.apsp_service.specs.Running.{SoFar, PieceEnds, with_faults_of, AllEnds, RunEnds, TakeEnds};
 
 use crate::session::Session;
+use crate::terms::Terms;
 use apsp_io::{Failed, Gate, Sink, Source};
 use network_replies::{Blocks, Executor, Stop};
 use std::alloc::Global;
@@ -24,17 +25,18 @@ pub const PIECE: usize = 4096;
 pub fn run<S: Source, K: Sink, R: Threads + Sync, G: Gate, B: Blocks>(
     alloc: Global,
     executor: &Executor<'_, R, G, B>,
-    smooth: bool,
+    terms: Terms,
     source: &mut S,
     sink: &mut K,
 ) -> Result<bool, Stop>
+    requires blocks { terms.readers ≡ B.readers executor.now.blocks.now }
     requires runs { B.ready executor.now.blocks.now }
-    ensures ends { RunEnds (first_state (B.readers executor.now.blocks.now) smooth) result
+    ensures ends { RunEnds (first_state terms) result
         (streams S.Source K.Sink source.old sink.old) (streams S.Source K.Sink source.new sink.new) }
     ensures source_later { S.faults source.old ≤ S.faults source.new }
     ensures sink_later { K.faults sink.old ≤ K.faults sink.new }
 {
-    let mut session = Session::new(alloc, executor.readers(), smooth)?;
+    let mut session = Session::new(alloc, terms)?;
     answer_all(&mut session, executor, source, sink)?;
     session.answer_last(executor, sink)?;
     session.finish(sink)?;
@@ -48,12 +50,12 @@ fn answer_all<S: Source, K: Sink, R: Threads + Sync, G: Gate, B: Blocks>(
     source: &mut S,
     sink: &mut K,
 ) -> Result<(), Stop>
-    requires blocks { session.old.readers ≡ B.readers executor.now.blocks.now }
+    requires blocks { session.old.terms.readers ≡ B.readers executor.now.blocks.now }
     requires runs { B.ready executor.now.blocks.now }
-    requires stands { HasStateAndContent session.old (first_state session.old.readers session.old.smooth) [] }
-    ensures ends { AllEnds (first_state session.old.readers session.old.smooth) result session.new
+    requires stands { HasStateAndContent session.old (first_state session.old.terms) [] }
+    ensures ends { AllEnds (first_state session.old.terms) result session.new
         (streams S.Source K.Sink source.old sink.old) (streams S.Source K.Sink source.new sink.new) }
-    ensures readers { session.new.readers ≡ session.old.readers }
+    ensures terms { session.new.terms ≡ session.old.terms }
     ensures lines { OnOk result (session.new.lines ≤ MOST_INPUT) }
     ensures source_later { S.faults source.old ≤ S.faults source.new }
     ensures sink_later { K.faults sink.old ≤ K.faults sink.new }
@@ -81,7 +83,7 @@ fn answer_piece<S: Source, K: Sink, R: Threads + Sync, G: Gate, B: Blocks>(
 ) -> Result<usize, Stop>
     requires few { taken ≤ MOST_INPUT }
     requires lines { session.old.lines ≤ taken }
-    requires blocks { session.old.readers ≡ B.readers executor.now.blocks.now }
+    requires blocks { session.old.terms.readers ≡ B.readers executor.now.blocks.now }
     requires runs { B.ready executor.now.blocks.now }
     requires stands { HasSomeStateAndContent session.old }
     requires opened { session.old.cutter.whole ≡ false }
@@ -92,7 +94,7 @@ fn answer_piece<S: Source, K: Sink, R: Threads + Sync, G: Gate, B: Blocks>(
         → PieceEnds start result session.new (with_faults_of (streams S.Source K.Sink source.old sink.old) first)
         (streams S.Source K.Sink source.new sink.new) bytes }
     ensures few { IfOk result (λ count. taken + count ≤ MOST_INPUT) }
-    ensures readers { session.new.readers ≡ session.old.readers }
+    ensures terms { session.new.terms ≡ session.old.terms }
     ensures lines { IfOk result (λ count. session.new.lines ≤ taken + count) }
     ensures opened { OnOk result (session.new.cutter.whole ≡ false) }
     ensures source_later { S.faults source.old ≤ S.faults source.new }
@@ -118,7 +120,7 @@ fn answer_front<K: Sink, R: Threads + Sync, G: Gate, B: Blocks>(
     sink: &mut K,
 ) -> Result<(), Stop>
     requires inside { count ≤ length buffer.now }
-    requires blocks { session.old.readers ≡ B.readers executor.now.blocks.now }
+    requires blocks { session.old.terms.readers ≡ B.readers executor.now.blocks.now }
     requires runs { B.ready executor.now.blocks.now }
     requires stands { HasSomeStateAndContent session.old }
     requires opened { session.old.cutter.whole ≡ false }
@@ -126,7 +128,7 @@ fn answer_front<K: Sink, R: Threads + Sync, G: Gate, B: Blocks>(
     ensures takes { (s : State) (content : List ℕ) → HasStateAndContent session.old s content
         → TakesPiece result session.new (sink_seen K.Sink sink.old) (sink_seen K.Sink sink.new) s content
         (take count buffer.now) }
-    ensures readers { session.new.readers ≡ session.old.readers }
+    ensures terms { session.new.terms ≡ session.old.terms }
     ensures lines { OnOk result (session.new.lines ≤ session.old.lines + count) }
     ensures opened { OnOk result (session.new.cutter.whole ≡ false) }
     ensures later { K.faults sink.old ≤ K.faults sink.new }

@@ -17,6 +17,7 @@ ghost use Rattle.apsp_service.specs.Standing.{HasState, HasStateAndContent, HasS
 ghost use Rattle.script_reader.specs.Cutter.{StandsFor};
 ghost use Rattle.apsp_model.specs.declared.TheConstants.{MOST_VERTICES, MOST_UPDATES};
 
+use crate::terms::Terms;
 use apsp_io::{Gate, GiveError, Sink};
 use apsp_model::Memory;
 use block_run::{Answer, BlockAnswers};
@@ -36,16 +37,15 @@ enum Reply {
     Answers(BlockAnswers),
 }
 
-/// What a session keeps from line to line: the line that is begun, the network and whether smoothing
-/// is on, how many readers a block has and the block that is open, how many lines there were and whether
-/// one was refused, and room for the text of a reply.
+/// What a session keeps from line to line: its terms, the line that is begun, the network and the block
+/// that is open, how many lines there were and whether one was refused, and room for the text of a
+/// reply.
 #[derive(Drop)]
 pub struct Session {
     alloc: Global,
+    terms: Terms,
     cutter: LineCutter,
     network: Option<Network>,
-    smooth: bool,
-    readers: Option<u32>,
     block: Option<OpenBlock>,
     lines: u32,
     refused: bool,
@@ -54,19 +54,17 @@ pub struct Session {
 
 impl Session {
     /// Before the first line.
-    pub fn new(alloc: Global, readers: Option<u32>, smooth: bool) -> Result<Session, Memory>
-        ensures stands { IfOk result (λ s. HasState s (first_state s.readers s.smooth)) }
-        ensures readers { IfOk result (λ s. s.readers ≡ readers) }
-        ensures smooth { IfOk result (λ s. s.smooth ≡ smooth) }
+    pub fn new(alloc: Global, terms: Terms) -> Result<Session, Memory>
+        ensures stands { IfOk result (λ s. HasState s (first_state s.terms)) }
+        ensures terms { IfOk result (λ s. s.terms ≡ terms) }
         ensures content { IfOk result (λ s. StandsFor s.cutter []) }
         ensures open { IfOk result (λ s. s.cutter.whole ≡ false) }
     {
         Ok(Session {
             alloc,
+            terms,
             cutter: LineCutter::new(alloc)?,
             network: None,
-            smooth,
-            readers,
             block: None,
             lines: 0,
             refused: false,
@@ -79,7 +77,7 @@ impl Session {
         requires few { self.now.lines < 2 ^ 32 }
         requires stands { (s : State) × HasState self.now s }
         ensures context { (s : State) → HasState self.now s → result ≡ context_of s }
-        ensures is { result ≡ context_at (vertices_in self.now.network) self.now.readers self.now.block }
+        ensures is { result ≡ context_at (vertices_in self.now.network) self.now.terms self.now.block }
         ensures most { result.vertices ≤ MOST_VERTICES }
     {
         let vertices = match &self.network {
@@ -92,10 +90,12 @@ impl Session {
         };
         Context {
             vertices,
-            live: self.readers.is_some(),
+            live: self.terms.readers.is_some(),
             inside: self.block.is_some(),
             updates,
             asks,
+            no_age: self.terms.no_age,
+            no_grow: self.terms.no_grow,
         }
     }
 
@@ -106,7 +106,8 @@ impl Session {
         ensures reading { (s : State) (content : List ℕ) → HasState self.now s → StandsFor self.now.cutter content
             → MeaningIs (line_of (context_of s) content) result }
         ensures fits { IfOk result
-            (FitsContext (context_at (vertices_in self.now.network) self.now.readers self.now.block)) }
+            (FitsContext (context_at (vertices_in self.now.network) self.now.terms self.now.block)) }
+        ensures begun { IfOk result (λ line. (n : ℕ) → line ≡ Line.Grow n → 0 < vertices_in self.now.network) }
     {
         if self.cutter.too_long() {
             return Err(LineError::Refused {
@@ -123,25 +124,25 @@ impl Session {
         executor: &Executor<'_, R, G, B>,
         line: Line,
     ) -> Result<(), AllocError>
-        requires fits { FitsContext (context_at (vertices_in self.old.network) self.old.readers self.old.block) line }
+        requires fits { FitsContext (context_at (vertices_in self.old.network) self.old.terms self.old.block) line }
+        requires begun { (n : ℕ) → line ≡ Line.Grow n → 0 < vertices_in self.old.network }
         requires text_alone { line ≡ Line.Cert → ⊥ }
         requires goes_on { line ≡ Line.End → ⊥ }
         requires ready { CanBeUpdated self.old.network }
         requires stands { (s : State) × HasInside self.old.network self.old.block s × (s.lines < MOST_UPDATES) }
         ensures stands { (s : State) → HasInside self.old.network self.old.block s
-            → self.old.smooth ≡ s.smooth → self.old.readers ≡ s.readers
+            → self.old.terms ≡ s.terms
             → OnOk result (HasInside self.new.network self.new.block (accepted (counted s) line)) }
         ensures reply { (s : State) → HasInside self.old.network self.old.block s
-            → OnOk result (GrowsBy (HasReply s.vertices s.smooth s.commands line)
+            → OnOk result (GrowsBy (HasReply s.vertices s.terms.smooth s.commands line)
             (string_bytes self.old.text) (string_bytes self.new.text)) }
         ensures cutter { self.new.cutter ≡ self.old.cutter }
-        ensures smooth { self.new.smooth ≡ self.old.smooth }
-        ensures readers { self.new.readers ≡ self.old.readers }
+        ensures terms { self.new.terms ≡ self.old.terms }
         ensures lines { self.new.lines ≡ self.old.lines }
         ensures refused { self.new.refused ≡ self.old.refused }
     {
         if let Line::Vertices(vertices) = line {
-            self.network = Some(Network::new(self.alloc, vertices, self.smooth)?);
+            self.network = Some(Network::new(self.alloc, vertices, self.terms.smooth)?);
             self.block = None;
             return Ok(());
         }
@@ -149,7 +150,7 @@ impl Session {
             return Ok(());
         };
         if let Line::Block = line {
-            if self.readers.is_some() {
+            if self.terms.readers.is_some() {
                 self.block = Some(OpenBlock::new(self.alloc, network.graph(), network.number())?);
             }
             return Ok(());
@@ -165,18 +166,17 @@ impl Session {
         &mut self,
         executor: &Executor<'_, R, G, B>,
     ) -> Result<BlockAnswers, AllocError>
-        requires blocks { self.old.readers ≡ B.readers executor.now.blocks.now }
+        requires blocks { self.old.terms.readers ≡ B.readers executor.now.blocks.now }
         requires runs { B.ready executor.now.blocks.now }
         requires ready { CanBeUpdated self.old.network }
         requires stands { (s : State) × HasInside self.old.network self.old.block s
-            × (s.readers ≡ self.old.readers) × (s.lines < MOST_UPDATES) }
+            × (s.terms ≡ self.old.terms) × (s.lines < MOST_UPDATES) }
         ensures stands { (s : State) → HasInside self.old.network self.old.block s
             → IfOk result (λ _. HasInside self.new.network self.new.block (accepted (counted s) Line.End)) }
         ensures reply { (s : State) → HasInside self.old.network self.old.block s
-            → IfOk result (λ answers. HasBlockReply self.old.readers s.block (flat_map answer_text answers)) }
+            → IfOk result (λ answers. HasBlockReply self.old.terms.readers s.block (flat_map answer_text answers)) }
         ensures cutter { self.new.cutter ≡ self.old.cutter }
-        ensures smooth { self.new.smooth ≡ self.old.smooth }
-        ensures readers { self.new.readers ≡ self.old.readers }
+        ensures terms { self.new.terms ≡ self.old.terms }
         ensures lines { self.new.lines ≡ self.old.lines }
         ensures refused { self.new.refused ≡ self.old.refused }
         ensures text { self.new.text ≡ self.old.text }
@@ -196,7 +196,7 @@ impl Session {
         executor: &Executor<'_, R, G, B>,
     ) -> Result<Reply, AllocError>
         requires few { self.old.lines + 1 < 2 ^ 32 }
-        requires blocks { self.old.readers ≡ B.readers executor.now.blocks.now }
+        requires blocks { self.old.terms.readers ≡ B.readers executor.now.blocks.now }
         requires runs { B.ready executor.now.blocks.now }
         requires stands { (s : State) × HasState self.old s }
         ensures stands { (s : State) (content : List ℕ) → HasState self.old s → StandsFor self.old.cutter content
@@ -206,7 +206,7 @@ impl Session {
         ensures certificate { IfOk result (λ reply. reply ≡ Reply.Certificate
             → CanBeUpdated self.new.network × (0 < vertices_in self.new.network)) }
         ensures cutter { self.new.cutter ≡ self.old.cutter }
-        ensures readers { self.new.readers ≡ self.old.readers }
+        ensures terms { self.new.terms ≡ self.old.terms }
         ensures lines { self.new.lines ≡ self.old.lines + 1 }
     {
         let reading = self.read();
@@ -238,14 +238,14 @@ impl Session {
         sink: &mut K,
     ) -> Result<(), Stop>
         requires few { self.old.lines + 1 < 2 ^ 32 }
-        requires blocks { self.old.readers ≡ B.readers executor.now.blocks.now }
+        requires blocks { self.old.terms.readers ≡ B.readers executor.now.blocks.now }
         requires runs { B.ready executor.now.blocks.now }
         requires stands { (s : State) × HasState self.old s }
         ensures stands { (s : State) (content : List ℕ) → HasState self.old s → StandsFor self.old.cutter content
             → OnOk result (HasState self.new (after_line s content)) }
         ensures gives { (s : State) (content : List ℕ) → HasState self.old s → StandsFor self.old.cutter content
             → GivingEnds result (sink_seen K.Sink sink.old) (sink_seen K.Sink sink.new) s (content ∷ []) }
-        ensures readers { self.new.readers ≡ self.old.readers }
+        ensures terms { self.new.terms ≡ self.old.terms }
         ensures lines { self.new.lines ≡ self.old.lines + 1 }
         ensures later { K.faults sink.old ≤ K.faults sink.new }
     {
@@ -263,7 +263,7 @@ impl Session {
         ensures stands { (s : State) → HasState self.old s → HasState self.new s }
         ensures gives { (s : State) → HasState self.old s
             → CertificateGiven result (sink_seen K.Sink sink.old) (sink_seen K.Sink sink.new) s }
-        ensures readers { self.new.readers ≡ self.old.readers }
+        ensures terms { self.new.terms ≡ self.old.terms }
         ensures lines { self.new.lines ≡ self.old.lines }
         ensures later { K.faults sink.old ≤ K.faults sink.new }
     {
@@ -281,7 +281,7 @@ impl Session {
         piece: &[u8],
         sink: &mut K,
     ) -> Result<usize, Stop>
-        requires blocks { self.old.readers ≡ B.readers executor.now.blocks.now }
+        requires blocks { self.old.terms.readers ≡ B.readers executor.now.blocks.now }
         requires runs { B.ready executor.now.blocks.now }
         requires stands { HasSomeStateAndContent self.old }
         requires some { 0 < length piece.now }
@@ -293,7 +293,7 @@ impl Session {
             → TakesFront result self.new (sink_seen K.Sink sink.old) (sink_seen K.Sink sink.new) s content piece.now }
         ensures lines { IfOk result (λ used. self.new.lines ≤ self.old.lines + used) }
         ensures opened { OnOk result (self.new.cutter.whole ≡ false) }
-        ensures readers { self.new.readers ≡ self.old.readers }
+        ensures terms { self.new.terms ≡ self.old.terms }
         ensures later { K.faults sink.old ≤ K.faults sink.new }
     {
         let cut = self.cutter.feed(piece);
@@ -311,7 +311,7 @@ impl Session {
         piece: &[u8],
         sink: &mut K,
     ) -> Result<(), Stop>
-        requires blocks { self.old.readers ≡ B.readers executor.now.blocks.now }
+        requires blocks { self.old.terms.readers ≡ B.readers executor.now.blocks.now }
         requires runs { B.ready executor.now.blocks.now }
         requires stands { HasSomeStateAndContent self.old }
         requires opened { self.old.cutter.whole ≡ false }
@@ -320,7 +320,7 @@ impl Session {
             → TakesPiece result self.new (sink_seen K.Sink sink.old) (sink_seen K.Sink sink.new) s content piece.now }
         ensures lines { OnOk result (self.new.lines ≤ self.old.lines + length piece.now) }
         ensures opened { OnOk result (self.new.cutter.whole ≡ false) }
-        ensures readers { self.new.readers ≡ self.old.readers }
+        ensures terms { self.new.terms ≡ self.old.terms }
         ensures later { K.faults sink.old ≤ K.faults sink.new }
     {
         let mut rest = piece;
@@ -338,7 +338,7 @@ impl Session {
         sink: &mut K,
     ) -> Result<(), Stop>
         requires few { self.old.lines + 1 < 2 ^ 32 }
-        requires blocks { self.old.readers ≡ B.readers executor.now.blocks.now }
+        requires blocks { self.old.terms.readers ≡ B.readers executor.now.blocks.now }
         requires runs { B.ready executor.now.blocks.now }
         requires stands { HasSomeStateAndContent self.old }
         ensures gives { (s : State) (content : List ℕ) → HasStateAndContent self.old s content
@@ -346,7 +346,7 @@ impl Session {
         ensures stands { (s : State) (content : List ℕ) → HasStateAndContent self.old s content
             → OnOk result (HasState self.new (after_lines s (line_if_some content))) }
         ensures lines { OnOk result (self.new.lines ≤ self.old.lines + 1) }
-        ensures readers { self.new.readers ≡ self.old.readers }
+        ensures terms { self.new.terms ≡ self.old.terms }
         ensures later { K.faults sink.old ≤ K.faults sink.new }
     {
         if self.is_line_empty() {
@@ -424,7 +424,7 @@ fn execute_outside_block<R: Threads + Sync, G: Gate, B: Blocks>(
     text: &mut String,
     line: Line,
 ) -> Result<(), AllocError>
-    requires fits { (readers : Option ℕ) × FitsContext (context_at network.old.graph.vertices readers None) line }
+    requires fits { (terms : Terms) × FitsContext (context_at network.old.graph.vertices terms None) line }
     requires goes_on { (n : ℕ) → line ≡ Line.Vertices n → ⊥ }
     requires text_alone { line ≡ Line.Cert → ⊥ }
     requires no_begin { line ≡ Line.Block → ⊥ }
@@ -433,18 +433,22 @@ fn execute_outside_block<R: Threads + Sync, G: Gate, B: Blocks>(
     ensures stands { (s : State) → HasInside (Some network.old) None s
         → OnOk result (HasInside (Some network.new) None (accepted (counted s) line)) }
     ensures reply { (s : State) → HasInside (Some network.old) None s
-        → OnOk result (GrowsBy (HasReply s.vertices s.smooth s.commands line)
+        → OnOk result (GrowsBy (HasReply s.vertices s.terms.smooth s.commands line)
         (string_bytes text.old) (string_bytes text.new)) }
 {
     match line {
         Line::Star(star) => network.apply(executor, &star),
         Line::Edge { u, v, w } => network.put_edge(executor, u, v, Some(w)),
         Line::Cut { u, v } => network.put_edge(executor, u, v, None),
+        Line::Grow(n) => network.grow(n),
         Line::Dist { x, y } => network.put_dist(text, x, y),
         Line::Path { x, y } => network.put_path(text, x, y),
         Line::Row { x } => network.put_row(text, x),
         Line::Stats => network.put_stats(text),
         Line::Age(list) => network.put_age(text, list.items()),
+        Line::Ecc { x } => network.put_ecc(text, x),
+        Line::Report => network.put_report(executor, text),
+        Line::Through { v } => network.put_through(executor, text, v),
         Line::Nothing
         | Line::Vertices(_)
         | Line::Cert
@@ -456,8 +460,8 @@ fn execute_outside_block<R: Threads + Sync, G: Gate, B: Blocks>(
 
 /// Does what a line asks for in a block other than its end. There it has no reply.
 fn execute_in_block(block: &mut OpenBlock, line: Line) -> Result<(), AllocError>
-    requires fits { (readers : Option ℕ)
-        × FitsContext (context_at (last_graph block.old.plan).vertices readers (Some block.old)) line }
+    requires fits { (terms : Terms)
+        × FitsContext (context_at (last_graph block.old.plan).vertices terms (Some block.old)) line }
     requires few { hi_of block.old.plan < MOST_UPDATES }
     requires goes_on { line ≡ Line.End → ⊥ }
     ensures { (e : EngineSeen) (s : State) → HasInside (Some e) (Some block.old) s
@@ -470,11 +474,15 @@ fn execute_in_block(block: &mut OpenBlock, line: Line) -> Result<(), AllocError>
         Line::Ask { x, y, since } => block.ask(x, y, since),
         Line::Nothing
         | Line::Vertices(_)
+        | Line::Grow(_)
         | Line::Dist { .. }
         | Line::Path { .. }
         | Line::Row { .. }
         | Line::Stats
         | Line::Age(_)
+        | Line::Ecc { .. }
+        | Line::Report
+        | Line::Through { .. }
         | Line::Cert
         | Line::Block
         | Line::End => Ok(()),

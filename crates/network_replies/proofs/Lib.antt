@@ -3,3 +3,4 @@ pub mod Texts
 pub mod Plans
 pub mod Seen
 pub mod Written
+pub mod Reported

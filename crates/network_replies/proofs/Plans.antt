@@ -1,6 +1,6 @@
 -- A plan with one star more, and the graph after it.
 use Rattle.std.proofs.Common.{◌≡◌, ℕ, ◌+◌, List, [], ◌∷◌, ◌++◌, length, length-append, refl, sym, ap, subst, ◌∙◌, arith}
-use Rattle.std.specs.Prelude.{Option, Some, slice_get, ◌-◌}
+use Rattle.std.specs.Prelude.{Some, slice_get, ◌-◌}
 use Rattle.apsp_model.specs.Graph.{Graph}
 use Rattle.apsp_model.specs.Star.{Star, star_of}
 use Rattle.graph_store.specs.Plan.{Plan, graph_after, with_star, hi_of}

@@ -13,6 +13,7 @@ use Rattle.apsp_model.specs.Counts.{Counts, CountsAre}
 use Rattle.apsp_model.specs.Kept.{IsKept, HasBirth}
 use Rattle.apsp_model.specs.Least.{LeastIs}
 use Rattle.path_arena.specs.Arena.{list_of, weight_of_id}
+use Rattle.path_reports.specs.declared.reports.Summary.{Summary}
 use Rattle.history_engine.specs.Seen.{EngineSeen}
 use Rattle.history_engine.specs.Advance.{Stands}
 use Rattle.history_engine.specs.Least.{LeastPath, IsLeastPath}
@@ -21,7 +22,7 @@ use Rattle.network_replies.specs.Distance.{IsDistance, AreDistances, IsRowReply}
 use Rattle.network_replies.specs.Growing.{GrowsBy}
 use Rattle.network_replies.specs.Path.{IsPathReply}
 use Rattle.network_replies.specs.Stats.{IsStatsReply}
-use Rattle.network_replies.specs.Replies.{number_text, entry_text, row_text, walk_text, path_text, stats_text, age_text}
+use Rattle.network_replies.specs.Replies.{number_text, entry_text, row_text, walk_text, path_text, stats_text, age_text, radius_text, report_text}
 use Rattle.network_replies.proofs.Rows.{IsFirstRow, row_more, row_none}
 
 -- one number more of those that are left
@@ -131,3 +132,14 @@ age_replied (Ok u) seen e commands list b old new same is stands text =
         (HasBirth seen.opening seen.smooth commands list) → IsBirth seen.opening seen.smooth commands list b
     birth None h = h
     birth (Some k) h = h
+
+-- a report, part by part
+pub report_put : {E : Type 0} (r : Result (Unit {0}) E) (s : Summary) (centre old a b new : List ℕ) → a ≡ old
+    ++ (codes "report diameter " ++ decimal s.diameter) → centre ≡ s.centre → b ≡ a ++ radius_text s.radius centre
+    → new ≡ (if is_ok r then b ++ encode 10 else b) → OnOk r (new ≡ old ++ report_text s)
+report_put (Err e) s centre old a b new front is mid end = tt
+report_put (Ok u) s centre old a b new front is mid end =
+    end ∙ ap (λ z. b ++ z) (encode_ascii 10 (omega arith))
+    ∙ ap (λ z. z ++ codes "\n")
+    (mid ∙ ap (λ k. a ++ radius_text s.radius k) is ∙ ap (λ z. z ++ radius_text s.radius s.centre) front)
+    ∙ simp append_assoc

@@ -18,11 +18,10 @@ use Rattle.network_replies.proofs.Seen.{sink_at}
 
 -- the certificate of a version was written
 pub certificate_written : (r : Result (Unit {0}) Stop) (g : Result (Unit {0}) GiveError) (v : VersionSeen) (e : Engine)
-    (old new : Option (List ℕ)) (before now : ℕ) → r ≡ as_stop g → v.graph ≡ e.graph → v.number ≡ length e.vertices
+    (old new : Option (List ℕ)) (before now : ℕ) → r ≡ as_stop g → v ≡ version_of e
     → (s : Stated) × IsStatedOf v s × GivesText g old new before now (text_of s) → (text : List ℕ)
     × IsTextOf (version_of e) text × LinesGiven r (sink_at old before) (sink_at new now) text
-certificate_written r g v e old new before now stopped graph number written =
-    let same : v ≡ version_of e = λ i. record { number = number i; graph = graph i } in
+certificate_written r g v e old new before now stopped same written =
     let F : VersionSeen → Type 0 = λ w. IsStatedOf w written.0 in
     let G : Result (Unit {0}) Stop → Type 0 =
     λ z. LinesGiven z (sink_at old before) (sink_at new now) (text_of written.0) in

@@ -6,6 +6,7 @@ pub mod Stats
 pub mod Age
 pub mod Certificate
 pub mod Replies
+pub mod Reporting
 pub mod Blocks
 pub mod BlockInside
 pub mod Growing

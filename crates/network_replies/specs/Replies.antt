@@ -6,6 +6,8 @@ use Rattle.apsp_model.specs.Graph.{Graph}
 use Rattle.apsp_model.specs.Walk.{weight_of}
 use Rattle.block_run.specs.declared.answers.Answer.{Answer}
 use Rattle.apsp_model.specs.Counts.{Counts}
+use Rattle.path_reports.specs.declared.reports.Span.{Span}
+use Rattle.path_reports.specs.declared.reports.Summary.{Summary}
 
 -- a number behind a space
 abbrev pub number_text : ℕ → List ℕ
@@ -43,6 +45,22 @@ birth_text (Some b) = codes " birth " ++ decimal b
 
 abbrev pub age_text : List ℕ → Option ℕ → List ℕ
 age_text list birth = codes "age" ++ flat_map number_text list ++ birth_text birth ++ codes "\n"
+
+abbrev pub ecc_text : ℕ → Span → List ℕ
+ecc_text x s =
+    codes "ecc " ++ decimal x ++ codes " far " ++ decimal s.far ++ codes " reach " ++ decimal s.reach ++ codes "\n"
+
+-- a radius before its centre, or `none`
+abbrev pub radius_text : Option ℕ → List ℕ → List ℕ
+radius_text None centre = codes " radius none"
+radius_text (Some r) centre = codes " radius " ++ decimal r ++ codes " centre" ++ flat_map number_text centre
+
+abbrev pub report_text : Summary → List ℕ
+report_text s = codes "report diameter " ++ decimal s.diameter ++ radius_text s.radius s.centre ++ codes "\n"
+
+-- how many pairs pass the vertex v
+abbrev pub through_text : ℕ → ℕ → List ℕ
+through_text v pairs = codes "through " ++ decimal v ++ codes " pairs " ++ decimal pairs ++ codes "\n"
 
 -- the refusal of the line with this number
 abbrev pub error_text : ℕ → ℕ → ℕ → List ℕ

@@ -4,7 +4,7 @@ ghost use Rattle.std.specs.Prelude.{◌≡◌, ◌≢◌, ◌<◌, ◌≤◌, �
 ghost use Rattle.std.specs.Option.{ForSome};
 ghost use Rattle.std.specs.List.{flat_map};
 ghost use Rattle.apsp_model.specs.declared.TheConstants.{MOST_VERTICES, MOST_UPDATES};
-ghost use Rattle.apsp_model.specs.Command.{Command, Star_update};
+ghost use Rattle.apsp_model.specs.Command.{Command, Star_update, Grow_update};
 ghost use Rattle.apsp_model.specs.Least.{LeastIs};
 ghost use Rattle.graph_store.specs.Making.{IsVertexCount};
 ghost use Rattle.graph_store.specs.Edges.{IsWeight};
@@ -17,6 +17,7 @@ ghost use Rattle.network_replies.specs.Certificate.{IsTextOf, version_of};
 ghost use Rattle.network_replies.specs.Growing.{GrowsBy, LinesGiven};
 ghost use Rattle.network_replies.specs.Path.{IsPathReply};
 ghost use Rattle.network_replies.specs.Replies.{entry_text, walk_text};
+ghost use Rattle.network_replies.specs.Reporting.{IsEccReply, IsReportReply, IsThroughReply};
 ghost use Rattle.network_replies.specs.EdgeStar.{star_with};
 ghost use Rattle.network_replies.specs.Streams.{sink_seen};
 ghost use Rattle.network_replies.specs.Stats.{IsStatsReply};
@@ -24,13 +25,16 @@ ghost use Rattle.network_replies.specs.Stats.{IsStatsReply};
 use crate::block::OpenBlock;
 use crate::blocks::Blocks;
 use crate::executor::Executor;
-use crate::replies::{put_age, put_dist, put_entry, put_stats, put_walk};
+use crate::replies::{
+    put_age, put_dist, put_ecc, put_entry, put_report, put_stats, put_through, put_walk,
+};
 use crate::stop::{Stop, given};
 use apsp_io::{Gate, Sink};
 use block_run::BlockAnswers;
 use certificate::write_certificate;
 use graph_store::{Graph, Star};
 use history_engine::Engine;
+use path_reports::{passing, span, summary};
 use std::alloc::{AllocError, Global};
 use std::fmt::Write;
 use std::marker::{Model, Sync};
@@ -39,7 +43,8 @@ use version_face::Version;
 
 /// The network that the line `vertices` makes, which each later command of a session asks or changes. It
 /// is seen as its engine, and has room for the star that `edge` and `cut` make, so that they take no
-/// memory for it. The room for the version that `cert` writes is made at the first certificate and kept.
+/// memory for it. The room for the version that `cert` writes and that reports are over is made at the
+/// first of them, and again at the first behind a grow, and kept.
 ///
 /// An update for which memory ran out leaves the network spent, and then no question may be put. A reply
 /// is put behind a text as one line, of which nothing is said where memory ran out.
@@ -48,7 +53,7 @@ pub struct Network {
     engine: Engine,
     star: Star,
     alloc: Global,
-    // None before the first certificate.
+    // None before the first certificate or report, and after a grow.
     version: Option<Version>,
 }
 
@@ -129,6 +134,23 @@ impl Network {
         self.engine.graph().star_into(u, &mut self.star);
         self.star.put_out(v, weight);
         executor.update(&mut self.engine, &self.star)
+    }
+
+    /// Adds vertices without edges, so that there are n: an update at no vertex, in memory and time for a
+    /// copy of the kept paths and for n² pairs. A network that is spent refuses it, and so does want of
+    /// memory; the network is then as it was.
+    pub fn grow(&mut self, n: u32) -> Result<(), AllocError>
+        requires more { self.old.graph.vertices < n }
+        requires most { n ≤ MOST_VERTICES }
+        requires few { length self.old.vertices < MOST_UPDATES }
+        ensures made { OnOk result (Advance self.old (Grow_update n) self.new) }
+        ensures unchanged { OnErr result (self.new ≡ self.old) }
+    {
+        let star = Star::new(self.alloc, n, 0).map_err(|_| AllocError)?;
+        self.engine.grow(n).map_err(|_| AllocError)?;
+        self.star = star;
+        self.version = None;
+        Ok(())
     }
 
     /// The graph.
@@ -261,6 +283,65 @@ impl Network {
         put_age(text, list, self.engine.birth(list))
     }
 
+    /// Puts the reply to `ecc` behind the text, in O(n²) looks, since it is read off a version. The network
+    /// stays as it is.
+    pub fn put_ecc(&mut self, text: &mut String, x: u32) -> Result<(), AllocError>
+        requires not_spent { self.old.spent ≡ false }
+        requires inside { x < self.old.graph.vertices }
+        ensures reply { OnOk result
+            (GrowsBy (IsEccReply self.old.graph x) (string_bytes text.old) (string_bytes text.new)) }
+        ensures same { self.new ≡ self.old }
+    {
+        let version = self.take_present()?;
+        let span = span(&version, x);
+        self.version = Some(version);
+        put_ecc(text, x, span)
+    }
+
+    /// Puts the reply to `report` behind the text, in O(n²) looks, which threads share. The network stays
+    /// as it is, and the reply is the same for any number of threads.
+    pub fn put_report<R: Threads + Sync, G: Gate, B: Blocks>(
+        &mut self,
+        executor: &Executor<'_, R, G, B>,
+        text: &mut String,
+    ) -> Result<(), AllocError>
+        requires { self.old.spent ≡ false }
+        ensures reply { OnOk result
+            (GrowsBy (IsReportReply self.old.graph) (string_bytes text.old) (string_bytes text.new)) }
+        ensures same { self.new ≡ self.old }
+    {
+        let version = self.take_present()?;
+        let found = summary(executor.rt, self.alloc, &version);
+        self.version = Some(version);
+        match found {
+            Ok(summary) => put_report(text, &summary),
+            Err(_) => Err(AllocError),
+        }
+    }
+
+    /// Puts the reply to `through` behind the text, in O(n²) walks of O(n), which threads share. The network
+    /// stays as it is, and the reply is the same for any number of threads.
+    pub fn put_through<R: Threads + Sync, G: Gate, B: Blocks>(
+        &mut self,
+        executor: &Executor<'_, R, G, B>,
+        text: &mut String,
+        v: u32,
+    ) -> Result<(), AllocError>
+        requires not_spent { self.old.spent ≡ false }
+        requires inside { v < self.old.graph.vertices }
+        ensures reply { OnOk result
+            (GrowsBy (IsThroughReply self.old.graph v) (string_bytes text.old) (string_bytes text.new)) }
+        ensures same { self.new ≡ self.old }
+    {
+        let version = self.take_present()?;
+        let found = passing(executor.rt, self.alloc, &version, v);
+        self.version = Some(version);
+        match found {
+            Ok(pairs) => put_through(text, v, pairs.items().len()),
+            Err(_) => Err(AllocError),
+        }
+    }
+
     /// Gives the sink the certificate of the present graph and number of updates, line by line, in O(n²)
     /// looks. The first one takes memory for the version that it writes. The network stays as it is.
     pub fn give_certificate<K: Sink>(&mut self, sink: &mut K) -> Result<(), Stop>
@@ -271,15 +352,25 @@ impl Network {
         ensures same { self.new ≡ self.old }
         ensures later { K.faults sink.old ≤ K.faults sink.new }
     {
-        let mut version = self.take_version()?;
-        self.engine.fill(&mut version);
+        let version = self.take_present()?;
         let ended = given(write_certificate(&version, sink));
         self.version = Some(version);
         ended
     }
 
+    /// The present version, in the room for one. Whoever takes it gives it back.
+    fn take_present(&mut self) -> Result<Version, AllocError>
+        requires { self.old.spent ≡ false }
+        ensures present { IfOk result (λ v. v ≡ version_of self.old) }
+        ensures same { self.new ≡ self.old }
+    {
+        let mut version = self.take_room()?;
+        self.engine.fill(&mut version);
+        Ok(version)
+    }
+
     /// The room for a version. It is made where there is none yet.
-    fn take_version(&mut self) -> Result<Version, AllocError>
+    fn take_room(&mut self) -> Result<Version, AllocError>
         ensures room { IfOk result (λ v. v.graph.vertices ≡ self.old.graph.vertices) }
         ensures same { self.new ≡ self.old }
     {

@@ -4,11 +4,12 @@ ghost use Rattle.std.specs.Prelude.{◌≡◌, ◌++◌, OnOk, codes, string_byt
 ghost use Rattle.std.specs.List.{flat_map};
 ghost use Rattle.path_arena.specs.Arena.{list_of, weight_of_id};
 ghost use Rattle.history_engine.specs.Answers.{numbers};
-ghost use Rattle.network_replies.specs.Replies.{number_text, entry_text, dist_text, stats_text, birth_text, age_text, error_text, answer_text, answer_walk_text};
+ghost use Rattle.network_replies.specs.Replies.{number_text, entry_text, dist_text, stats_text, birth_text, age_text, ecc_text, radius_text, report_text, through_text, error_text, answer_text, answer_walk_text};
 
 use block_run::Answer;
 use history_engine::{Counts, Least};
 use itoa::Buffer;
+use path_reports::{Span, Summary};
 use std::alloc::AllocError;
 use std::fmt::Write;
 
@@ -56,6 +57,29 @@ pub fn put_age(text: &mut String, list: &[u32], birth: Option<u64>) -> Result<()
     text.push('\n')
 }
 
+/// The reply to `ecc`.
+pub fn put_ecc(text: &mut String, x: u32, span: Span) -> Result<(), AllocError>
+    ensures { OnOk result (string_bytes text.new ≡ string_bytes text.old ++ ecc_text x span) }
+{
+    write!(text, "ecc {x} far {} reach {}\n", span.far, span.reach)
+}
+
+/// The reply to `report`.
+pub fn put_report(text: &mut String, summary: &Summary) -> Result<(), AllocError>
+    ensures { OnOk result (string_bytes text.new ≡ string_bytes text.old ++ report_text summary.now) }
+{
+    write!(text, "report diameter {}", summary.diameter)?;
+    put_radius(text, summary.radius, summary.centre.items())?;
+    text.push('\n')
+}
+
+/// The reply to `through`.
+pub fn put_through(text: &mut String, v: u32, pairs: usize) -> Result<(), AllocError>
+    ensures { OnOk result (string_bytes text.new ≡ string_bytes text.old ++ through_text v pairs) }
+{
+    write!(text, "through {v} pairs {pairs}\n")
+}
+
 /// The reply to a question of a block.
 pub fn put_answer(text: &mut String, answer: &Answer) -> Result<(), AllocError>
     ensures { OnOk result (string_bytes text.new ≡ string_bytes text.old ++ answer_text answer.now) }
@@ -101,6 +125,19 @@ fn put_birth(text: &mut String, birth: Option<u64>) -> Result<(), AllocError>
     match birth {
         Some(birth) => write!(text, " birth {birth}"),
         None => text.push_str(" none"),
+    }
+}
+
+/// A radius before its centre, or `none`.
+fn put_radius(text: &mut String, radius: Option<u64>, centre: &[u32]) -> Result<(), AllocError>
+    ensures { OnOk result (string_bytes text.new ≡ string_bytes text.old ++ radius_text radius centre.now) }
+{
+    match radius {
+        Some(radius) => {
+            write!(text, " radius {radius} centre")?;
+            put_list(text, centre)
+        }
+        None => text.push_str(" radius none"),
     }
 }
 

@@ -11,7 +11,7 @@ use Rattle.apsp_model.specs.Star.{Star as Star_model, IsStar}
 use Rattle.graph_store.specs.Making.{IsVertexCount, no_star}
 use Rattle.graph_store.specs.Edges.{IsWeight, with_edge}
 use Rattle.graph_store.proofs.StarRows.{is_star-with, is_star-no_star}
-use Rattle.script_reader.specs.declared.code.TheConstants.{NO_VERTICES, VERTICES_TWICE, COMMAND, NEEDS_LIVE, OPEN_BLOCK, BLOCK_FULL, SINCE, TOO_LONG, VERTEX, SELF_EDGE, REPEAT, WEIGHT}
+use Rattle.script_reader.specs.declared.code.TheConstants.{NO_VERTICES, VERTICES_TWICE, COMMAND, NEEDS_LIVE, OPEN_BLOCK, BLOCK_FULL, SINCE, NOT_MORE, NOT_SERVED, TOO_LONG, VERTEX, SELF_EDGE, REPEAT, WEIGHT}
 use Rattle.script_reader.specs.declared.TheConstants.{MOST_LINE_BYTES}
 use Rattle.script_reader.specs.declared.LineError.{LineError}
 use Rattle.script_reader.specs.declared.Context.{Context}
@@ -20,11 +20,11 @@ use Rattle.script_reader.specs.declared.Command.TheVariants as command
 use Rattle.script_reader.specs.declared.Group.{Group}
 use Rattle.script_reader.specs.declared.Group.TheVariants.{Out, In}
 use Rattle.script_reader.specs.declared.Line.{Line}
-use Rattle.script_reader.specs.declared.Line.TheVariants.{Nothing, Vertices, Star, Edge, Cut, Dist, Path, Row, Stats, Age, Cert, Block, Ask, End}
+use Rattle.script_reader.specs.declared.Line.TheVariants.{Nothing, Vertices, Star, Edge, Cut, Dist, Path, Row, Stats, Age, Cert, Block, Ask, End, Grow, Ecc, Report, Through}
 use Rattle.script_reader.specs.Words.{words_of, is_comment, command_of, is_out, is_in}
 use Rattle.script_reader.specs.Refused.{Refusal, refused, ◌>>=◌}
 use Rattle.script_reader.specs.Edges.{number_at, vertex_below, vertex_at, is_no_weight, weight_in_range, weight_at_word, is_colon, edge_of, star_with_edge, star_with_item, star_with_groups, first_misfit, vertices_at}
-use Rattle.script_reader.specs.Meaning.{is_vertices, is_update, is_inner, is_of_block, is_full, misplaced, vertices_line, star_unless, star_line, edge_line, two_vertices, cut_line, row_line, stats_line, age_line, cert_line, block_line, end_line, since_word, since_at, ask_line, line_with, line_unless, command_line, line_of_words, line_of}
+use Rattle.script_reader.specs.Meaning.{is_vertices, changes_edges, is_inner, is_of_block, is_unserved, is_full, misplaced, vertex_count, vertices_line, grow_line, star_unless, star_line, edge_line, one_vertex, two_vertices, cut_line, row_line, ecc_line, through_line, stats_line, report_line, age_line, cert_line, block_line, end_line, since_word, since_at, ask_line, line_with, line_unless, command_line, line_of_words, line_of}
 use Rattle.script_reader.specs.Answer.{MeaningIs, FitsContext}
 
 -- where both steps were accepted
@@ -184,11 +184,28 @@ two_fit n (a ∷ b ∷ []) p e =
     same p q e = cc
 two_fit n (a ∷ b ∷ c ∷ ws) p e = cc
 
+one_fits : (n : ℕ) (ws : List (List ℕ)) (x : ℕ) → one_vertex n ws ≡ Ok x → x < n
+one_fits n [] x e = cc
+one_fits n (a ∷ []) x e = vertex_fits n 2 a x e
+one_fits n (a ∷ b ∷ ws) x e = cc
+
+count_fits : (ws : List (List ℕ)) (m : ℕ) → vertex_count ws ≡ Ok m → IsVertexCount m
+count_fits [] m e = cc
+count_fits (w ∷ []) m e =
+    let b = bound (number_at 2 w) (λ k. if nat_le 1 k && nat_le k MOST_VERTICES then Ok k else refused VERTEX 2) m e in
+    let t = passed (nat_le 1 b.value && nat_le b.value MOST_VERTICES) b.value m VERTEX 2 b.second in
+    subst IsVertexCount t.1 (count b.value t.0)
+  where
+    count : (k : ℕ) → (nat_le 1 k && nat_le k MOST_VERTICES) ≡ true → IsVertexCount k
+    count k t = record { some = grind (arith, nat_tests); most = grind (arith, nat_tests) }
+count_fits (w ∷ v ∷ ws) m e = cc
+
 -- a command that may stand where it does failed none of the tests
 record MayStandThere (context : Context) (c : Command) : Type 0 where
   inner : (context.live && (not context.inside && is_inner c)) ≡ false
   of_block : (not context.live && is_of_block c) ≡ false
-  within : (context.inside && not (is_update c || is_inner c)) ≡ false
+  served : is_unserved context c ≡ false
+  within : (context.inside && not (changes_edges c || is_inner c)) ≡ false
   rest : ◌≡◌ {A = Option ℕ} (if is_vertices c then (if context.vertices == 0 then None else Some VERTICES_TWICE) else
       (if context.vertices == 0 then Some NO_VERTICES else
       (if context.inside && is_full context c then Some BLOCK_FULL else None))) None
@@ -197,8 +214,9 @@ placed : (context : Context) (c : Command) → misplaced context c ≡ None → 
 placed context c e =
     let first = test (context.live && (not context.inside && is_inner c)) COMMAND _ e in
     let second = test (not context.live && is_of_block c) NEEDS_LIVE _ first.1 in
-    let third = test (context.inside && not (is_update c || is_inner c)) OPEN_BLOCK _ second.1 in
-    record { inner = first.0; of_block = second.0; within = third.0; rest = third.1 }
+    let third = test (is_unserved context c) NOT_SERVED _ second.1 in
+    let fourth = test (context.inside && not (changes_edges c || is_inner c)) OPEN_BLOCK _ third.1 in
+    record { inner = first.0; of_block = second.0; served = third.0; within = fourth.0; rest = fourth.1 }
   where
     test : (b : Bool) (code : ℕ) (rest : Option ℕ) → (if b then Some code else rest) ≡ None → (b ≡ false)
         × (rest ≡ None)
@@ -232,16 +250,21 @@ some_vertices context full e = test (context.vertices == 0) refl e
 module _ (context : Context) where
   vertices_line_fits : (ws : List (List ℕ)) (l : Line) → context.inside ≡ false → vertices_line ws ≡ Ok l
       → FitsContext context l
-  vertices_line_fits [] l out e = cc
-  vertices_line_fits (w ∷ []) l out e =
-      let b = bound (number_at 2 w) (λ m. if nat_le 1 m && nat_le m MOST_VERTICES then Ok (Vertices m) else refused
-      VERTEX 2) l e in
-      let t = passed (nat_le 1 b.value && nat_le b.value MOST_VERTICES) (Vertices b.value) l VERTEX 2 b.second in
-      subst (FitsContext context) t.1 (out, count b.value t.0)
+  vertices_line_fits ws l out e =
+      let m = bound (vertex_count ws) (λ m. Ok (Vertices m)) l e in
+      subst (FitsContext context) (as_line (Vertices m.value) l m.second) (out, count_fits ws m.value m.first)
+
+  grow_line_fits : (ws : List (List ℕ)) (l : Line) → context.inside ≡ false → context.no_grow ≡ false
+      → grow_line context.vertices ws ≡ Ok l → FitsContext context l
+  grow_line_fits ws l out served e =
+      let m = bound (vertex_count ws)
+      (λ m. if nat_le m context.vertices then refused NOT_MORE 2 else Ok (Grow m)) l e in
+      let t = not_failed (nat_le m.value context.vertices) (Ok (Grow m.value)) l NOT_MORE 2 m.second in
+      subst (FitsContext context) (as_line (Grow m.value) l t.1)
+      (out, served, more m.value t.0, (count_fits ws m.value m.first).most)
     where
-      count : (m : ℕ) → (nat_le 1 m && nat_le m MOST_VERTICES) ≡ true → IsVertexCount m
-      count m t = record { some = grind (arith, nat_tests); most = grind (arith, nat_tests) }
-  vertices_line_fits (w ∷ v ∷ ws) l out e = cc
+      more : (m : ℕ) → nat_le m context.vertices ≡ false → context.vertices < m
+      more m t = grind (arith, nat_tests)
 
   star_line_fits : (ws : List (List ℕ)) (l : Line) → IsVertexCount context.vertices
       → star_line context.vertices ws ≡ Ok l → FitsContext context l
@@ -319,30 +342,48 @@ module _ (context : Context) where
 
   row_line_fits : (ws : List (List ℕ)) (l : Line) → context.inside ≡ false → row_line context.vertices ws ≡ Ok l
       → FitsContext context l
-  row_line_fits [] l out e = cc
-  row_line_fits (a ∷ []) l out e =
-      let x = bound (vertex_at context.vertices 2 a) (λ x. Ok (Row x)) l e in
+  row_line_fits ws l out e =
+      let x = bound (one_vertex context.vertices ws) (λ x. Ok (Row x)) l e in
       subst (FitsContext context) (as_line (Row x.value) l x.second)
-      (out, vertex_fits context.vertices 2 a x.value x.first)
-  row_line_fits (a ∷ b ∷ ws) l out e = cc
+      (out, one_fits context.vertices ws x.value x.first)
+
+  ecc_line_fits : (ws : List (List ℕ)) (l : Line) → context.inside ≡ false → ecc_line context.vertices ws ≡ Ok l
+      → FitsContext context l
+  ecc_line_fits ws l out e =
+      let x = bound (one_vertex context.vertices ws) (λ x. Ok (Ecc x)) l e in
+      subst (FitsContext context) (as_line (Ecc x.value) l x.second)
+      (out, one_fits context.vertices ws x.value x.first)
+
+  through_line_fits : (ws : List (List ℕ)) (l : Line) → context.inside ≡ false
+      → through_line context.vertices ws ≡ Ok l → FitsContext context l
+  through_line_fits ws l out e =
+      let v = bound (one_vertex context.vertices ws) (λ v. Ok (Through v)) l e in
+      subst (FitsContext context) (as_line (Through v.value) l v.second)
+      (out, one_fits context.vertices ws v.value v.first)
 
   stats_line_fits : (ws : List (List ℕ)) (l : Line) → context.inside ≡ false → 1 ≤ context.vertices
       → stats_line ws ≡ Ok l → FitsContext context l
   stats_line_fits [] l out some e = subst (FitsContext context) (as_line Stats l e) (out, omega (arith, some))
   stats_line_fits (w ∷ ws) l out some e = cc
 
+  report_line_fits : (ws : List (List ℕ)) (l : Line) → context.inside ≡ false → 1 ≤ context.vertices
+      → report_line ws ≡ Ok l → FitsContext context l
+  report_line_fits [] l out some e = subst (FitsContext context) (as_line Report l e) (out, omega (arith, some))
+  report_line_fits (w ∷ ws) l out some e = cc
+
   cert_line_fits : (ws : List (List ℕ)) (l : Line) → context.inside ≡ false → 1 ≤ context.vertices → cert_line ws ≡ Ok l
       → FitsContext context l
   cert_line_fits [] l out some e = subst (FitsContext context) (as_line Cert l e) (out, omega (arith, some))
   cert_line_fits (w ∷ ws) l out some e = cc
 
-  age_line_fits : (ws : List (List ℕ)) (l : Line) → context.inside ≡ false → age_line context.vertices ws ≡ Ok l
-      → FitsContext context l
-  age_line_fits [] l out e = cc
-  age_line_fits (w ∷ ws) l out e =
+  age_line_fits : (ws : List (List ℕ)) (l : Line) → context.inside ≡ false → context.no_age ≡ false
+      → age_line context.vertices ws ≡ Ok l → FitsContext context l
+  age_line_fits [] l out served e = cc
+  age_line_fits (w ∷ ws) l out served e =
       let us = bound (vertices_at context.vertices 2 (w ∷ ws)) (λ us. Ok (Age us)) l e in
       subst (FitsContext context) (as_line (Age us.value) l us.second) (
         out,
+        served,
         vertices_some context.vertices 2 w ws us.value us.first,
         vertices_fit context.vertices 2 (w ∷ ws)
             us.value us.first,
@@ -410,7 +451,7 @@ module _ (context : Context) where
   line_fits command.Row ws l most p e = row_line_fits ws l (is_outside context.inside p.within) e
   line_fits command.Stats ws l most p e =
       stats_line_fits ws l (is_outside context.inside p.within) (some_vertices context _ p.rest) e
-  line_fits command.Age ws l most p e = age_line_fits ws l (is_outside context.inside p.within) e
+  line_fits command.Age ws l most p e = age_line_fits ws l (is_outside context.inside p.within) p.served e
   line_fits command.Cert ws l most p e =
       cert_line_fits ws l (is_outside context.inside p.within) (some_vertices context _ p.rest) e
   line_fits command.Block ws l most p e =
@@ -418,6 +459,11 @@ module _ (context : Context) where
       (some_vertices context _ p.rest) e
   line_fits command.Ask ws l most p e = ask_line_fits ws l (is_inside context.live context.inside p.inner p.of_block) e
   line_fits command.End ws l most p e = end_line_fits ws l (is_inside context.live context.inside p.inner p.of_block) e
+  line_fits command.Grow ws l most p e = grow_line_fits ws l (is_outside context.inside p.within) p.served e
+  line_fits command.Ecc ws l most p e = ecc_line_fits ws l (is_outside context.inside p.within) e
+  line_fits command.Report ws l most p e =
+      report_line_fits ws l (is_outside context.inside p.within) (some_vertices context _ p.rest) e
+  line_fits command.Through ws l most p e = through_line_fits ws l (is_outside context.inside p.within) e
 
   words_fit : (ws : List (List ℕ)) (l : Line) → context.vertices ≤ MOST_VERTICES → line_of_words context ws ≡ Ok l
       → FitsContext context l

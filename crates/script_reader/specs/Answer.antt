@@ -3,6 +3,7 @@ use Rattle.std.specs.Prelude.{◌≡◌, ◌≢◌, ℕ, ◌+◌, ◌<◌, ◌�
 use Rattle.std.specs.declared.alloc.Global.{Global}
 use Rattle.std.specs.declared.vec.Vec.{Vec}
 use Rattle.apsp_model.specs.Star.{Star as Star_model, IsStar}
+use Rattle.apsp_model.specs.declared.TheConstants.{MOST_VERTICES}
 use Rattle.graph_store.specs.Making.{IsVertexCount}
 use Rattle.graph_store.specs.Edges.{IsWeight}
 use Rattle.graph_store.specs.declared.star.StarError.{StarError}
@@ -12,7 +13,7 @@ use Rattle.script_reader.specs.declared.Context.{Context}
 use Rattle.script_reader.specs.declared.LineError.{LineError}
 use Rattle.script_reader.specs.declared.LineError.TheVariants.{Refused, Memory}
 use Rattle.script_reader.specs.declared.Line.{Line}
-use Rattle.script_reader.specs.declared.Line.TheVariants.{Vertices, Star, Edge, Cut, Dist, Path, Row, Stats, Age, Cert, Block, Ask, End}
+use Rattle.script_reader.specs.declared.Line.TheVariants.{Vertices, Star, Edge, Cut, Dist, Path, Row, Stats, Age, Cert, Block, Ask, End, Grow, Ecc, Report, Through}
 use Rattle.script_reader.specs.declared.scan.Word.{Word}
 use Rattle.script_reader.specs.declared.scan.Words.{Words}
 use Rattle.script_reader.specs.Scan.{words_left}
@@ -99,10 +100,16 @@ FitsContext context (Dist x y) = (context.inside ≡ false) × (x < context.vert
 FitsContext context (Path x y) = (context.inside ≡ false) × (x < context.vertices) × (y < context.vertices)
 FitsContext context (Row x) = (context.inside ≡ false) × (x < context.vertices)
 FitsContext context Stats = (context.inside ≡ false) × (0 < context.vertices)
-FitsContext context (Age list) = (context.inside ≡ false) × (0 < length list) × All (λ x. x < context.vertices) list
+FitsContext context (Age list) = (context.inside ≡ false) × (context.no_age ≡ false)
+    × (0 < length list) × All (λ x. x < context.vertices) list
 FitsContext context Cert = (context.inside ≡ false) × (0 < context.vertices)
 FitsContext context Block = (context.live ≡ true) × (context.inside ≡ false) × (0 < context.vertices)
 FitsContext context (Ask x y since) =
     (context.inside ≡ true) × (x < context.vertices) × (y < context.vertices) × (since ≤ context.updates)
 FitsContext context End = context.inside ≡ true
+FitsContext context (Grow m) = (context.inside ≡ false) × (context.no_grow ≡ false)
+    × (context.vertices < m) × (m ≤ MOST_VERTICES)
+FitsContext context (Ecc x) = (context.inside ≡ false) × (x < context.vertices)
+FitsContext context Report = (context.inside ≡ false) × (0 < context.vertices)
+FitsContext context (Through v) = (context.inside ≡ false) × (v < context.vertices)
 FitsContext context _ = ⊤

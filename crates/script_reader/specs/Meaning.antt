@@ -3,12 +3,12 @@ use Rattle.std.specs.Prelude.{ℕ, ◌+◌, Bool, true, false, not, ◌==◌, �
 use Rattle.apsp_model.specs.declared.TheConstants.{MOST_VERTICES}
 use Rattle.graph_store.specs.Making.{no_star}
 use Rattle.script_reader.specs.declared.TheConstants.{MOST_LINE_BYTES, MOST_IN_BLOCK}
-use Rattle.script_reader.specs.declared.code.TheConstants.{NO_VERTICES, VERTICES_TWICE, COMMAND, SHAPE, VERTEX, SELF_EDGE, TOO_LONG, NEEDS_LIVE, BLOCK_FULL, OPEN_BLOCK, SINCE}
+use Rattle.script_reader.specs.declared.code.TheConstants.{NO_VERTICES, VERTICES_TWICE, COMMAND, SHAPE, VERTEX, SELF_EDGE, TOO_LONG, NEEDS_LIVE, BLOCK_FULL, OPEN_BLOCK, SINCE, NOT_MORE, NOT_SERVED}
 use Rattle.script_reader.specs.declared.Context.{Context}
 use Rattle.script_reader.specs.declared.Command.{Command}
 use Rattle.script_reader.specs.declared.Command.TheVariants as command
 use Rattle.script_reader.specs.declared.Line.{Line}
-use Rattle.script_reader.specs.declared.Line.TheVariants.{Nothing, Vertices, Star, Edge, Cut, Dist, Path, Row, Stats, Age, Cert, Block, Ask, End}
+use Rattle.script_reader.specs.declared.Line.TheVariants.{Nothing, Vertices, Star, Edge, Cut, Dist, Path, Row, Stats, Age, Cert, Block, Ask, End, Grow, Ecc, Report, Through}
 use Rattle.script_reader.specs.declared.Group.TheVariants.{Out}
 use Rattle.script_reader.specs.Words.{words_of, is_comment, is_since, command_of}
 use Rattle.script_reader.specs.Refused.{Refusal, refused, ◌>>=◌}
@@ -18,12 +18,12 @@ abbrev pub is_vertices : Command → Bool
 is_vertices command.Vertices = true
 is_vertices _ = false
 
--- commands that change a graph
-abbrev pub is_update : Command → Bool
-is_update command.Star = true
-is_update command.Edge = true
-is_update command.Cut = true
-is_update _ = false
+-- commands that change edges, the updates that may stand in a block
+abbrev pub changes_edges : Command → Bool
+changes_edges command.Star = true
+changes_edges command.Edge = true
+changes_edges command.Cut = true
+changes_edges _ = false
 
 -- commands that stand in blocks alone
 abbrev pub is_inner : Command → Bool
@@ -36,31 +36,45 @@ abbrev pub is_of_block : Command → Bool
 is_of_block command.Block = true
 is_of_block c = is_inner c
 
+-- whether the session does not serve a command
+abbrev pub is_unserved : Context → Command → Bool
+is_unserved context command.Age = context.no_age
+is_unserved context command.Grow = context.no_grow
+is_unserved context _ = false
+
 -- whether a block has no room for what the command adds to it
 abbrev pub is_full : Context → Command → Bool
 is_full context command.Ask = nat_le MOST_IN_BLOCK context.asks
-is_full context c = is_update c && nat_le MOST_IN_BLOCK context.updates
+is_full context c = changes_edges c && nat_le MOST_IN_BLOCK context.updates
 
 -- why a command cannot stand here, whatever its other words are
 abbrev pub misplaced : Context → Command → Option ℕ
 misplaced context c =
     if context.live && (not context.inside && is_inner c) then Some COMMAND
     else (if not context.live && is_of_block c then Some NEEDS_LIVE
-    else (if context.inside && not (is_update c || is_inner c) then Some OPEN_BLOCK
+    else (if is_unserved context c then Some NOT_SERVED
+    else (if context.inside && not (changes_edges c || is_inner c) then Some OPEN_BLOCK
     else (if is_vertices c then (if context.vertices == 0 then None else Some VERTICES_TWICE)
     else (if context.vertices == 0 then Some NO_VERTICES
     else (if context.inside && is_full context c then Some BLOCK_FULL
-    else None)))))
+    else None))))))
 
 -- where a command takes so many words behind it, the place of the first word too many, or of the one
 -- that is missing
 abbrev pub misshapen : {A : Type 0} → ℕ → List (List ℕ) → Result A Refusal
 misshapen count arguments = refused SHAPE (min (length arguments) count + 2)
 
+-- one word, a number of vertices
+abbrev pub vertex_count : List (List ℕ) → Result ℕ Refusal
+vertex_count (w ∷ []) =
+    number_at 2 w >>= (λ m. if nat_le 1 m && nat_le m MOST_VERTICES then Ok m else refused VERTEX 2)
+vertex_count arguments = misshapen 1 arguments
+
 abbrev pub vertices_line : List (List ℕ) → Result Line Refusal
-vertices_line (w ∷ []) =
-    number_at 2 w >>= (λ n. if nat_le 1 n && nat_le n MOST_VERTICES then Ok (Vertices n) else refused VERTEX 2)
-vertices_line arguments = misshapen 1 arguments
+vertices_line arguments = vertex_count arguments >>= (λ m. Ok (Vertices m))
+
+abbrev pub grow_line : ℕ → List (List ℕ) → Result Line Refusal
+grow_line n arguments = vertex_count arguments >>= (λ m. if nat_le m n then refused NOT_MORE 2 else Ok (Grow m))
 
 -- the star of the first word with the items of the others, unless one of them is a misfit
 abbrev pub star_unless : Option ℕ → ℕ → List ℕ → List (List ℕ) → Result Line Refusal
@@ -86,13 +100,27 @@ two_vertices n arguments = misshapen 2 arguments
 abbrev pub cut_line : ℕ → List (List ℕ) → Result Line Refusal
 cut_line n arguments = two_vertices n arguments >>= (λ p. if p.0 == p.1 then refused SELF_EDGE 3 else Ok (Cut p.0 p.1))
 
+-- one word, a vertex
+abbrev pub one_vertex : ℕ → List (List ℕ) → Result ℕ Refusal
+one_vertex n (a ∷ []) = vertex_at n 2 a
+one_vertex n arguments = misshapen 1 arguments
+
 abbrev pub row_line : ℕ → List (List ℕ) → Result Line Refusal
-row_line n (a ∷ []) = vertex_at n 2 a >>= (λ x. Ok (Row x))
-row_line n arguments = misshapen 1 arguments
+row_line n arguments = one_vertex n arguments >>= (λ x. Ok (Row x))
+
+abbrev pub ecc_line : ℕ → List (List ℕ) → Result Line Refusal
+ecc_line n arguments = one_vertex n arguments >>= (λ x. Ok (Ecc x))
+
+abbrev pub through_line : ℕ → List (List ℕ) → Result Line Refusal
+through_line n arguments = one_vertex n arguments >>= (λ v. Ok (Through v))
 
 abbrev pub stats_line : List (List ℕ) → Result Line Refusal
 stats_line [] = Ok Stats
 stats_line arguments = misshapen 0 arguments
+
+abbrev pub report_line : List (List ℕ) → Result Line Refusal
+report_line [] = Ok Report
+report_line arguments = misshapen 0 arguments
 
 abbrev pub cert_line : List (List ℕ) → Result Line Refusal
 cert_line [] = Ok Cert
@@ -150,6 +178,10 @@ line_with command.Cert context arguments = cert_line arguments
 line_with command.Block context arguments = block_line arguments
 line_with command.Ask context arguments = ask_line context.vertices context.updates arguments
 line_with command.End context arguments = end_line arguments
+line_with command.Grow context arguments = grow_line context.vertices arguments
+line_with command.Ecc context arguments = ecc_line context.vertices arguments
+line_with command.Report context arguments = report_line arguments
+line_with command.Through context arguments = through_line context.vertices arguments
 
 abbrev pub line_unless : Option ℕ → Command → Context → List (List ℕ) → Result Line Refusal
 line_unless (Some code) c context arguments = refused code 1

@@ -3,7 +3,7 @@ use Rattle.std.specs.Prelude.{ℕ, Bool, true, false, ◌==◌, ◌||◌, if◌t
 use Rattle.std.specs.List.{slice_split, prefix_len}
 use Rattle.std.specs.Str.{bytes_eq}
 use Rattle.script_reader.specs.declared.Command.{Command}
-use Rattle.script_reader.specs.declared.Command.TheVariants.{Vertices, Star, Edge, Cut, Dist, Path, Row, Stats, Age, Cert, Block, Ask, End}
+use Rattle.script_reader.specs.declared.Command.TheVariants.{Vertices, Star, Edge, Cut, Dist, Path, Row, Stats, Age, Cert, Block, Ask, End, Grow, Ecc, Report, Through}
 use Rattle.script_reader.specs.declared.Group.{Group}
 use Rattle.script_reader.specs.declared.Group.TheVariants.{Out, In}
 
@@ -44,7 +44,11 @@ command_of w =
     else (if bytes_eq w (codes "block") then Some Block
     else (if bytes_eq w (codes "ask") then Some Ask
     else (if bytes_eq w (codes "end") then Some End
-    else None))))))))))))
+    else (if bytes_eq w (codes "grow") then Some Grow
+    else (if bytes_eq w (codes "ecc") then Some Ecc
+    else (if bytes_eq w (codes "report") then Some Report
+    else (if bytes_eq w (codes "through") then Some Through
+    else None))))))))))))))))
 
 -- the word that begins a group of a star
 abbrev pub is_out : List ℕ → Bool

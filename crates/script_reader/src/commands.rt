@@ -2,7 +2,7 @@
 ghost use Rattle.std.specs.Prelude.{◌≡◌};
 ghost use Rattle.std.specs.Str.{bytes_eq};
 ghost use Rattle.script_reader.specs.Words.{command_of, group_of, is_out, is_in, is_since, is_comment};
-ghost use Rattle.script_reader.specs.Meaning.{is_update, is_inner, is_of_block, is_full, misplaced};
+ghost use Rattle.script_reader.specs.Meaning.{changes_edges, is_inner, is_of_block, is_unserved, is_full, misplaced};
 
 use crate::{Command, Context, Group, MOST_IN_BLOCK, code};
 
@@ -37,6 +37,14 @@ pub fn command_of(word: &[u8]) -> Option<Command>
         Some(Command::Ask)
     } else if is(word, b"end") {
         Some(Command::End)
+    } else if is(word, b"grow") {
+        Some(Command::Grow)
+    } else if is(word, b"ecc") {
+        Some(Command::Ecc)
+    } else if is(word, b"report") {
+        Some(Command::Report)
+    } else if is(word, b"through") {
+        Some(Command::Through)
     } else {
         None
     }
@@ -51,7 +59,9 @@ pub fn misplaced(context: &Context, command: Command) -> Option<u32>
         Some(code::COMMAND)
     } else if !context.live && is_of_block(command) {
         Some(code::NEEDS_LIVE)
-    } else if context.inside && !is_update(command) && !is_inner(command) {
+    } else if is_unserved(context, command) {
+        Some(code::NOT_SERVED)
+    } else if context.inside && !changes_edges(command) && !is_inner(command) {
         Some(code::OPEN_BLOCK)
     } else if matches!(command, Command::Vertices) {
         named.then_some(code::VERTICES_TWICE)
@@ -62,9 +72,9 @@ pub fn misplaced(context: &Context, command: Command) -> Option<u32>
     }
 }
 
-/// Whether a command changes a graph.
-fn is_update(command: Command) -> bool
-    ensures { result ≡ is_update command }
+/// Whether a command changes edges. These are the updates that may stand in a block.
+fn changes_edges(command: Command) -> bool
+    ensures { result ≡ changes_edges command }
 {
     matches!(command, Command::Star | Command::Edge | Command::Cut)
 }
@@ -81,6 +91,17 @@ fn is_of_block(command: Command) -> bool
     ensures { result ≡ is_of_block command }
 {
     matches!(command, Command::Block) || is_inner(command)
+}
+
+/// Whether the session does not serve the command.
+fn is_unserved(context: &Context, command: Command) -> bool
+    ensures { result ≡ is_unserved context.now command }
+{
+    match command {
+        Command::Age => context.no_age,
+        Command::Grow => context.no_grow,
+        _ => false,
+    }
 }
 
 /// Whether the open block has no room for what the command adds to it.

@@ -63,6 +63,10 @@ pub mod code {
     pub const OPEN_BLOCK: u32 = 13;
     /// A question asks for more updates than its block has accepted before it.
     pub const SINCE: u32 = 14;
+    /// The new number of vertices is not above the present one.
+    pub const NOT_MORE: u32 = 15;
+    /// The command is one that this session does not serve.
+    pub const NOT_SERVED: u32 = 16;
 }
 
 /// What a line's meaning depends on.
@@ -78,6 +82,10 @@ pub struct Context {
     pub updates: u32,
     /// How many questions the open block has accepted.
     pub asks: u32,
+    /// Whether the session does not serve `age`.
+    pub no_age: bool,
+    /// Whether the session does not serve `grow`.
+    pub no_grow: bool,
 }
 
 /// Why a line has no meaning.
@@ -131,6 +139,14 @@ pub enum Line {
     /// A question in a block, about the walks from x to y after at least so many of its updates.
     Ask { x: u32, y: u32, since: u32 },
     End,
+    /// So many vertices, the new ones without edges.
+    Grow(u32),
+    /// How far the walks from x go, and how many vertices they reach.
+    Ecc { x: u32 },
+    /// Diameter, radius and centre.
+    Report,
+    /// How many least walks between other vertices have v in them.
+    Through { v: u32 },
 }
 
 /// The first words that are commands.
@@ -149,6 +165,10 @@ enum Command {
     Block,
     Ask,
     End,
+    Grow,
+    Ecc,
+    Report,
+    Through,
 }
 
 /// The groups of a star's items: edges from its vertex, and edges to it.

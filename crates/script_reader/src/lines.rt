@@ -4,7 +4,7 @@ ghost use Rattle.std.specs.Option.{ForSome};
 ghost use Rattle.graph_store.specs.Making.{IsVertexCount};
 ghost use Rattle.script_reader.specs.Scan.{words_left};
 ghost use Rattle.script_reader.specs.Answer.{MeaningIs, IsOne, AreTwo, AreThree, IsRequired, IsAtEnd, IsListAnswer, IsSinceAnswer, bytes_of};
-ghost use Rattle.script_reader.specs.Meaning.{vertices_line, star_line, edge_line, cut_line, two_vertices, row_line, stats_line, age_line, cert_line, block_line, ask_line, since_word, since_at, end_line, line_with};
+ghost use Rattle.script_reader.specs.Meaning.{vertex_count, vertices_line, grow_line, star_line, edge_line, cut_line, one_vertex, two_vertices, row_line, ecc_line, through_line, stats_line, report_line, age_line, cert_line, block_line, ask_line, since_word, since_at, end_line, line_with};
 ghost use Rattle.script_reader.specs.Edges.{vertices_at};
 
 use crate::commands::is_since;
@@ -48,6 +48,10 @@ pub fn line_with(
         Command::Block => block_line(words),
         Command::Ask => ask_line(n, context.updates, words),
         Command::End => end_line(words),
+        Command::Grow => grow_line(n, words),
+        Command::Ecc => ecc_line(n, words),
+        Command::Report => report_line(words),
+        Command::Through => through_line(n, words),
     }
 }
 
@@ -55,12 +59,33 @@ fn vertices_line(words: Words<'_>) -> Result<Line, LineError>
     requires { words.place ≡ 2 }
     ensures { MeaningIs (vertices_line (words_left words.entry)) result }
 {
+    let n = vertex_count(words)?;
+    Ok(Line::Vertices(n))
+}
+
+/// Behind so many vertices.
+fn grow_line(n: u32, words: Words<'_>) -> Result<Line, LineError>
+    requires { words.place ≡ 2 }
+    ensures { MeaningIs (grow_line n (words_left words.entry)) result }
+{
+    let count = vertex_count(words)?;
+    if count <= n {
+        return Err(refused(code::NOT_MORE, words.place));
+    }
+    Ok(Line::Grow(count))
+}
+
+/// The number of vertices that the word alone is.
+fn vertex_count(words: Words<'_>) -> Result<u32, LineError>
+    requires { words.place ≡ 2 }
+    ensures { MeaningIs (vertex_count (words_left words.entry)) result }
+{
     let word = one(words)?;
-    let n = number_at(word.place, word.bytes)?;
-    if n < 1 || n > u64::from(MOST_VERTICES) {
+    let count = number_at(word.place, word.bytes)?;
+    if count < 1 || count > u64::from(MOST_VERTICES) {
         return Err(refused(code::VERTEX, word.place));
     }
-    Ok(Line::Vertices(n as u32))
+    Ok(count as u32)
 }
 
 fn star_line(alloc: Global, n: u32, mut words: Words<'_>) -> Result<Line, LineError>
@@ -117,9 +142,32 @@ fn row_line(n: u32, words: Words<'_>) -> Result<Line, LineError>
     requires { words.place ≡ 2 }
     ensures { MeaningIs (row_line n (words_left words.entry)) result }
 {
-    let word = one(words)?;
-    let x = vertex_at(n, word)?;
+    let x = one_vertex(n, words)?;
     Ok(Line::Row { x })
+}
+
+fn ecc_line(n: u32, words: Words<'_>) -> Result<Line, LineError>
+    requires { words.place ≡ 2 }
+    ensures { MeaningIs (ecc_line n (words_left words.entry)) result }
+{
+    let x = one_vertex(n, words)?;
+    Ok(Line::Ecc { x })
+}
+
+fn through_line(n: u32, words: Words<'_>) -> Result<Line, LineError>
+    requires { words.place ≡ 2 }
+    ensures { MeaningIs (through_line n (words_left words.entry)) result }
+{
+    let v = one_vertex(n, words)?;
+    Ok(Line::Through { v })
+}
+
+fn one_vertex(n: u32, words: Words<'_>) -> Result<u32, LineError>
+    requires { words.place ≡ 2 }
+    ensures { MeaningIs (one_vertex n (words_left words.entry)) result }
+{
+    let word = one(words)?;
+    vertex_at(n, word)
 }
 
 fn stats_line(words: Words<'_>) -> Result<Line, LineError>
@@ -128,6 +176,14 @@ fn stats_line(words: Words<'_>) -> Result<Line, LineError>
 {
     at_end(words)?;
     Ok(Line::Stats)
+}
+
+fn report_line(words: Words<'_>) -> Result<Line, LineError>
+    requires { words.place ≡ 2 }
+    ensures { MeaningIs (report_line (words_left words.entry)) result }
+{
+    at_end(words)?;
+    Ok(Line::Report)
 }
 
 fn cert_line(words: Words<'_>) -> Result<Line, LineError>

@@ -6,7 +6,15 @@ use super::*;
 use std::test::Fail;
 
 fn context(vertices: u32) -> Context
-    ensures { result ≡ record { vertices = vertices; live = false; inside = false; updates = 0; asks = 0 } }
+    ensures { result ≡ record {
+      vertices = vertices;
+      live = false;
+      inside = false;
+      updates = 0;
+      asks = 0;
+      no_age = false;
+      no_grow = false;
+    } }
 {
     Context {
         vertices,
@@ -14,6 +22,8 @@ fn context(vertices: u32) -> Context
         inside: false,
         updates: 0,
         asks: 0,
+        no_age: false,
+        no_grow: false,
     }
 }
 
@@ -36,13 +46,16 @@ fn answer_at(alloc: Global, context: &Context, bytes: &[u8]) -> Result<(u32, u32
 
 fn numbers(line: &Line) -> [u32; 3] {
     match line {
-        Line::Nothing | Line::Stats | Line::Cert | Line::Block | Line::End => [0, 0, 0],
-        Line::Vertices(n) => [*n, 0, 0],
+        Line::Nothing | Line::Stats | Line::Cert | Line::Block | Line::End | Line::Report => {
+            [0, 0, 0]
+        }
+        Line::Vertices(n) | Line::Grow(n) => [*n, 0, 0],
         Line::Star(star) => [star.vertex(), star.vertices(), 0],
         Line::Edge { u, v, w } => [*u, *v, *w],
         Line::Cut { u, v } => [*u, *v, 0],
         Line::Dist { x, y } | Line::Path { x, y } => [*x, *y, 0],
-        Line::Row { x } => [*x, 0, 0],
+        Line::Row { x } | Line::Ecc { x } => [*x, 0, 0],
+        Line::Through { v } => [*v, 0, 0],
         Line::Age(list) => [list.items().len().min(9) as u32, 0, 0],
         Line::Ask { x, y, since } => [*x, *y, *since],
     }
@@ -87,6 +100,22 @@ fn refused_lines(rt: HostRuntime) {
         (2, "block", (11, 1)),
         (0, "ask 0 1", (11, 1)),
         (3, "end 0 0", (11, 1)),
+        (0, "grow 2", (1, 1)),
+        (0, "ecc 0", (1, 1)),
+        (0, "report", (1, 1)),
+        (0, "through 0", (1, 1)),
+        (3, "grow", (4, 2)),
+        (3, "grow 4 4", (4, 3)),
+        (3, "ecc", (4, 2)),
+        (3, "report 0", (4, 2)),
+        (3, "through 0 1", (4, 3)),
+        (3, "grow 04", (5, 2)),
+        (3, "grow 0", (6, 2)),
+        (512, "grow 513", (6, 2)),
+        (3, "ecc 3", (6, 2)),
+        (3, "through 3", (6, 2)),
+        (3, "grow 3", (15, 2)),
+        (3, "grow 1", (15, 2)),
     ] {
         if vertices <= MOST_VERTICES {
             let given = answer(rt.alloc(), vertices, line.as_bytes());
@@ -113,6 +142,11 @@ fn accepted_lines(rt: HostRuntime) {
         (3, "star 1", [1, 3, 0]),
         (2, "star 0 out 1:4294967295", [0, 2, 0]),
         (2, "star 0 out 1:0", [0, 2, 0]),
+        (3, "grow 4", [4, 0, 0]),
+        (3, "grow 512", [512, 0, 0]),
+        (3, "ecc 2", [2, 0, 0]),
+        (3, "report", [0, 0, 0]),
+        (3, "through 1", [1, 0, 0]),
     ] {
         if vertices <= MOST_VERTICES {
             let given = answer(rt.alloc(), vertices, line.as_bytes());
@@ -123,7 +157,15 @@ fn accepted_lines(rt: HostRuntime) {
 
 /// A context in a mode with blocks, on three vertices.
 fn live(inside: bool, updates: u32, asks: u32) -> Context
-    ensures { result ≡ record { vertices = 3; live = true; inside = inside; updates = updates; asks = asks } }
+    ensures { result ≡ record {
+      vertices = 3;
+      live = true;
+      inside = inside;
+      updates = updates;
+      asks = asks;
+      no_age = false;
+      no_grow = false;
+    } }
 {
     Context {
         vertices: 3,
@@ -131,6 +173,8 @@ fn live(inside: bool, updates: u32, asks: u32) -> Context
         inside,
         updates,
         asks,
+        no_age: false,
+        no_grow: false,
     }
 }
 
@@ -168,11 +212,61 @@ fn lines_of_blocks(rt: HostRuntime) {
         (begun, "block", Ok((13, 1))),
         (begun, "vertices 3", Ok((13, 1))),
         (begun, "cert", Ok((13, 1))),
+        (begun, "grow 3", Ok((13, 1))),
+        (begun, "ecc 0", Ok((13, 1))),
+        (begun, "report", Ok((13, 1))),
+        (begun, "through 0", Ok((13, 1))),
         (full, "ask 0 1 since 65536", Ok((12, 1))),
+        (full, "grow 4", Ok((13, 1))),
         (full, "star 9", Ok((12, 1))),
         (full, "cut 0", Ok((12, 1))),
         (full, "dist 0 1", Ok((13, 1))),
         (full, "end", Err([0, 0, 0])),
+    ] {
+        if context.vertices <= MOST_VERTICES {
+            let given = answer_at(rt.alloc(), &context, line.as_bytes());
+            assert_eq!(rt; given, wanted, "{line}");
+        }
+    }
+}
+
+/// A context in a session that does not serve `grow`, and may serve `age`.
+fn without_grow(vertices: u32, inside: bool, no_age: bool) -> Context
+    ensures { result ≡ record {
+      vertices = vertices;
+      live = inside;
+      inside = inside;
+      updates = 0;
+      asks = 0;
+      no_age = no_age;
+      no_grow = true;
+    } }
+{
+    Context {
+        vertices,
+        live: inside,
+        inside,
+        updates: 0,
+        asks: 0,
+        no_age,
+        no_grow: true,
+    }
+}
+
+#[test]
+fn commands_not_served_are_refused(rt: HostRuntime) {
+    for (context, line, wanted) in [
+        (without_grow(3, false, true), "age 0", Ok((16, 1))),
+        (without_grow(3, false, true), "grow 2", Ok((16, 1))),
+        (without_grow(0, false, true), "age", Ok((16, 1))),
+        (without_grow(0, false, true), "grow x", Ok((16, 1))),
+        (without_grow(0, false, true), "stats", Ok((1, 1))),
+        (without_grow(3, false, true), "stats", Err([0, 0, 0])),
+        (without_grow(3, false, false), "age 0", Err([1, 0, 0])),
+        (without_grow(3, false, false), "grow 4", Ok((16, 1))),
+        (without_grow(3, true, true), "age 0", Ok((16, 1))),
+        (without_grow(3, true, true), "grow 4", Ok((16, 1))),
+        (without_grow(3, true, true), "cert", Ok((13, 1))),
     ] {
         if context.vertices <= MOST_VERTICES {
             let given = answer_at(rt.alloc(), &context, line.as_bytes());

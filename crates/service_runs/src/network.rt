@@ -116,6 +116,59 @@ fn certificate(alloc: Global, network: &mut Network) -> Result<MemorySink, Fail>
     Ok(sink)
 }
 
+/// The reply to `ecc`.
+fn ecc(alloc: Global, network: &mut Network, x: u32) -> Result<String, Fail> {
+    if x >= network.vertices() || network.is_spent() {
+        return Err(Fail::from("no such question"));
+    }
+    let mut text = String::new(alloc);
+    network.put_ecc(&mut text, x)?;
+    Ok(text)
+}
+
+/// The reply to `report`.
+fn report<R: Threads + Sync>(rt: &R, alloc: Global, network: &mut Network) -> Result<String, Fail> {
+    if network.is_spent() {
+        return Err(Fail::from("no such question"));
+    }
+    let executor = Executor::new(rt, 1, &OpenGate, &NoBlocks);
+    let mut text = String::new(alloc);
+    network.put_report(&executor, &mut text)?;
+    Ok(text)
+}
+
+/// The reply to `through`.
+fn through<R: Threads + Sync>(
+    rt: &R,
+    alloc: Global,
+    network: &mut Network,
+    v: u32,
+) -> Result<String, Fail> {
+    if v >= network.vertices() || network.is_spent() {
+        return Err(Fail::from("no such question"));
+    }
+    let executor = Executor::new(rt, 1, &OpenGate, &NoBlocks);
+    let mut text = String::new(alloc);
+    network.put_through(&executor, &mut text, v)?;
+    Ok(text)
+}
+
+/// One edge on two vertices.
+fn one_edge<R: Threads + Sync>(rt: &R, alloc: Global) -> Result<Network, Fail> {
+    let mut network = Network::new(alloc, 2, false)?;
+    put_edge(rt, &mut network, 0, 1, 5)?;
+    Ok(network)
+}
+
+/// Two vertices more.
+fn grow_to_four(network: &mut Network) -> Result<(), Fail> {
+    if network.vertices() >= 4 || network.number() >= 1 << 40 {
+        return Err(Fail::from("no such grow"));
+    }
+    network.grow(4)?;
+    Ok(())
+}
+
 #[test]
 fn a_distance_is_that_of_the_least_walk(rt: HostRuntime) -> Result<(), Fail> {
     let network = two_edges(&rt, rt.alloc())?;
@@ -175,7 +228,65 @@ fn a_certificate_has_edges_and_pairs(rt: HostRuntime) -> Result<(), Fail> {
     let sink = certificate(rt.alloc(), &mut network)?;
     assert_eq!(rt;
         sink.held(),
-        b"apsp certificate 1\nnumber 2\nvertices 3\nedges 2\n0 1 4\n1 2 3\npairs 3\n0 1 4 1 1\n0 2 7 2 1\n1 2 3 1 2\nend\n".as_slice()
+        b"apsp certificate 2\nnumber 2\nvertices 3\nedges 2\n0 1:4\n1 2:3\npairs 3\n0 1:4:1:1 2:7:2:1\n1 2:3:1:2\nend\n".as_slice()
     );
+    Ok(())
+}
+
+#[test]
+fn a_vertex_reaches_so_far_and_so_many(rt: HostRuntime) -> Result<(), Fail> {
+    let mut network = two_edges(&rt, rt.alloc())?;
+    let first = ecc(rt.alloc(), &mut network, 0)?;
+    assert_eq!(rt; first.as_str(), "ecc 0 far 7 reach 3\n");
+    let last = ecc(rt.alloc(), &mut network, 2)?;
+    assert_eq!(rt; last.as_str(), "ecc 2 far 0 reach 1\n");
+    Ok(())
+}
+
+#[test]
+fn a_report_has_the_vertices_of_the_centre(rt: HostRuntime) -> Result<(), Fail> {
+    let mut network = two_edges(&rt, rt.alloc())?;
+    let text = report(&rt, rt.alloc(), &mut network)?;
+    assert_eq!(rt; text.as_str(), "report diameter 7 radius 7 centre 0\n");
+    Ok(())
+}
+
+#[test]
+fn only_the_walk_over_both_edges_passes_a_vertex(rt: HostRuntime) -> Result<(), Fail> {
+    let mut network = two_edges(&rt, rt.alloc())?;
+    let passed = through(&rt, rt.alloc(), &mut network, 1)?;
+    assert_eq!(rt; passed.as_str(), "through 1 pairs 1\n");
+    let end = through(&rt, rt.alloc(), &mut network, 2)?;
+    assert_eq!(rt; end.as_str(), "through 2 pairs 0\n");
+    Ok(())
+}
+
+/// The grow is an update of one step, which forms and removes nothing.
+#[test]
+fn a_grow_adds_vertices_without_edges(rt: HostRuntime) -> Result<(), Fail> {
+    let mut network = one_edge(&rt, rt.alloc())?;
+    grow_to_four(&mut network)?;
+    let distances = row(rt.alloc(), &network, 0)?;
+    assert_eq!(rt; distances.as_str(), "row 0 0 5 none none\n");
+    let counts = stats(rt.alloc(), &network)?;
+    assert_eq!(rt;
+        counts.as_str(),
+        "stats updates 2 steps 2 paths 1 historical 1 formed 0 removed 0\n"
+    );
+    put_edge(&rt, &mut network, 1, 3, 2)?;
+    let walk = path(rt.alloc(), &network, 0, 3)?;
+    assert_eq!(rt; walk.as_str(), "path 0 3 7 walk 0 1 3\n");
+    Ok(())
+}
+
+/// The room for a version is of two vertices before the grow, and of four behind it.
+#[test]
+fn reports_go_on_behind_a_grow(rt: HostRuntime) -> Result<(), Fail> {
+    let mut network = one_edge(&rt, rt.alloc())?;
+    let before = report(&rt, rt.alloc(), &mut network)?;
+    assert_eq!(rt; before.as_str(), "report diameter 5 radius 5 centre 0\n");
+    grow_to_four(&mut network)?;
+    let after = report(&rt, rt.alloc(), &mut network)?;
+    assert_eq!(rt; after.as_str(), "report diameter 5 radius none\n");
     Ok(())
 }

@@ -310,6 +310,47 @@ fn a_failing_sink_ends_the_run(rt: HostRuntime) -> Result<(), Fail> {
     Ok(())
 }
 
+/// The sink fails at each give in turn, and then holds exactly the lines before it. A body that gives two lines
+/// at once, answers of a block or lines of a certificate, meets every clause; this test alone refuses it.
+#[test]
+fn each_line_is_given_by_itself(rt: HostRuntime) -> Result<(), Fail> {
+    for (words, input, text, lines) in [
+        (
+            "run",
+            "vertices 2\nedge 0 1 5\nfoo\ncert\nrow 0\n",
+            "line 3 error 3 at 1\napsp certificate 2\nnumber 1\nvertices 2\nedges 1\n0 1:5\npairs 1\n0 1:5:1:1\nend\nrow 0 0 5\n",
+            10,
+        ),
+        (
+            "live",
+            "vertices 2\nblock\nedge 0 1 4\nask 0 1 since 1\nask 1 1 since 1\nask 1 0 since 1\nend\nblock\n",
+            "at 1 path 0 1 4 walk 0 1\nat 1 path 1 1 0 walk 1\nat 1 path 1 0 none\nline 9 error 13 at 0\n",
+            4,
+        ),
+    ] {
+        let words = words_of(rt.alloc(), words)?;
+        for call in 1..=lines {
+            let (status, held) = run_over(
+                &rt,
+                rt.alloc(),
+                &words,
+                input.as_bytes(),
+                4096,
+                &[],
+                &[Cutoff { call, kept: 0 }],
+            )?;
+            assert_eq!(rt; status, 4, "give {call}");
+            assert!(rt; text.as_bytes().starts_with(&held), "give {call}");
+            assert_eq!(rt;
+                held.split(|b| *b == b'\n').count() as u64,
+                call,
+                "give {call}"
+            );
+        }
+    }
+    Ok(())
+}
+
 /// The sink fails at the first reply, and then the second question is still in the source. A body
 /// that reads all its input first and answers afterwards meets every clause; this test alone refuses
 /// it.
@@ -408,7 +449,7 @@ fn generated_input_has_one_line(rt: HostRuntime) -> Result<(), Fail> {
 
 /// The certificate of a network with two ways of one weight.
 const CERTIFICATE: &str =
-    "apsp certificate 1\nnumber 2\nvertices 4\nedges 4\n0 1 1\n0 2 2\n1 3 2\n2 3 1\npairs 5\n0 1 1 1 1\n0 2 2 1 2\n0 3 3 2 1\n1 3 2 1 3\n2 3 1 1 3\nend\n";
+    "apsp certificate 2\nnumber 2\nvertices 4\nedges 4\n0 1:1 2:2\n1 3:2\n2 3:1\npairs 5\n0 1:1:1:1 2:2:1:2 3:3:2:1\n1 3:2:1:3\n2 3:1:1:3\nend\n";
 
 #[test]
 fn certificates_are_given_and_checked(rt: HostRuntime) -> Result<(), Fail> {
@@ -422,7 +463,7 @@ fn certificates_are_given_and_checked(rt: HostRuntime) -> Result<(), Fail> {
     assert_eq!(rt; status, 4);
     assert_eq!(rt;
         held.as_slice(),
-        b"apsp certificate 1\nnumber 2\nvertices 4\nedg".as_slice()
+        b"apsp certificate 2\nnumber 2\nvertices 4\nedg".as_slice()
     );
 
     let words = words_of(alloc, "check")?;

@@ -11,14 +11,14 @@ pub returns-in_ok-execute-in-Ok : goal.returns-in_ok-execute-in-Ok
 returns-in_ok-execute-in-Ok g c = record {
   stands = λ s content st has.
       line_stands s content _ _ (c.in-Ok.ensures.reading s content st has)
-      (c.in_ok-execute-in-Ok.ensures.stands s st.inside st.smooth st.readers)
-      (c.execute.ensures.readers ∙ st.readers) (c.execute.ensures.smooth ∙ st.smooth)
+      (c.in_ok-execute-in-Ok.ensures.stands s st.inside st.terms)
+      (c.execute.ensures.terms ∙ st.terms)
       (c.execute.ensures.lines ∙ ap (λ n. n + 1) st.lines) (c.execute.ensures.refused ∙ st.refused);
   reply = λ s content st has.
       ok_replied s content _ _ _ (c.in-Ok.ensures.reading s content st has) c.clear.ensures.bytes (search rules)
       (c.in_ok-execute-in-Ok.ensures.reply s st.inside);
   certificate = λ e. cc;
   cutter = search rules;
-  readers = search rules;
+  terms = search rules;
   lines = search rules;
 }

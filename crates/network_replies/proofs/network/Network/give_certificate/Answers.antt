@@ -1,4 +1,3 @@
-use Rattle.std.proofs.Common.{◌≡◌, length}
 use Rattle.network_replies.proofs.Written.{certificate_begun, certificate_written}
 use Rattle.network_replies.proofs.network.Network.give_certificate.Goals as goal
 
@@ -7,7 +6,5 @@ returns-in_err-version-clause-gives g c = certificate_begun _ c.args.self.now _ 
 
 pub returns-clause-gives : goal.returns-clause-gives
 returns-clause-gives g c =
-    let graph : c.fill.new.version.graph ≡ c.args.self.now.graph = search in
-    let number : c.fill.new.version.number ≡ length c.args.self.now.vertices = search in
-    certificate_written _ c.write_certificate.result c.fill.new.version c.args.self.now _ _ _ _ c.given-ended.ensures
-    graph number c.write_certificate.ensures.text
+    certificate_written _ c.write_certificate.result c.in_ok-version.version c.args.self.now _ _ _ _
+    c.given-ended.ensures c.in_ok-version.ensures.present c.write_certificate.ensures.text
