@@ -10,7 +10,7 @@ STREET, WATER, INK = "#c9c9c9", "#bcd9ee", "#444444"
 LINE_OF_LEGEND = 26
 
 
-QUESTIONS = ("dist", "row", "path", "stats", "age", "cert")
+QUESTIONS = ("dist", "row", "path", "stats", "age", "cert", "ecc", "report", "through")
 
 
 class Unread(SystemExit):
@@ -49,7 +49,7 @@ class Town:
             self.rivers.append(list(zip(numbers[::2], numbers[1::2])))
         elif not words or words[0].startswith("#") or words[0] in QUESTIONS:
             return
-        elif words[0] == "vertices":
+        elif words[0] in ("vertices", "grow"):
             self.crossings = int(words[1])
         elif words[0] == "star":
             self.replace(int(words[1]), words[2:])

@@ -12,7 +12,7 @@ function refusal(line, code, place,    text, words, count, where) {
     else if (place > count) where = "behind the last word"
     else where = "at word " place " (" words[place] ")"
     print "  " name[code] ", " where ": " cause[code]
-    print "  expected: " (code == 4 && words[1] in form ? form[words[1]] : expected[code])
+    print "  expected: " (code == 4 && words[1] in form ? form[words[1]] : code in expected ? expected[code] : "a line of docs/FORMATS.md that this mode serves")
 }
 
 part == "formats" && /^## / { section = substr($0, 4) }

@@ -36,12 +36,38 @@ struct apsp {
     char read[4096];
 };
 
-static const char *const NAMES[] = {"",        "NoVertices", "VerticesTwice", "Command",   "Shape",
-                                    "Number",  "Vertex",     "SelfEdge",      "Repeat",    "Weight",
-                                    "TooLong", "NeedsLive",  "BlockFull",     "OpenBlock", "Since"};
+static const struct {
+    const char *name, *expected;
+} CODES[] = {
+    {"", ""},
+    {"NoVertices", "a number of vertices before it"},
+    {"VerticesTwice", "no second number of vertices"},
+    {"Command", "a command of the program"},
+    {"Shape", "the form of the command"},
+    {"Number", "a whole number from 0 on, of at most 19 digits"},
+    {"Vertex", "a vertex below the number of vertices, which is 1 to 512"},
+    {"SelfEdge", "an edge between two different vertices"},
+    {"Repeat", "each edge once"},
+    {"Weight", "a weight from 0 to 4294967295"},
+    {"TooLong", "at most 65,536 bytes"},
+    {"NeedsLive", "a network that apsp_open_live made"},
+    {"BlockFull", "at most 65,536 updates and as many questions in a block"},
+    {"OpenBlock", "star, edge, cut or ask in a block"},
+    {"Since", "no more updates than stand before it in its block"},
+    {"NotMore", "a number of vertices above the present one"},
+    {"NotServed", "a command that the program serves in this mode"},
+};
+
+static int is_code(int code) {
+    return code > 0 && (size_t)code < sizeof CODES / sizeof *CODES;
+}
 
 const char *apsp_name(int code) {
-    return code > 0 && (size_t)code < sizeof NAMES / sizeof *NAMES ? NAMES[code] : "";
+    return is_code(code) ? CODES[code].name : "";
+}
+
+const char *apsp_expected(int code) {
+    return is_code(code) ? CODES[code].expected : "";
 }
 
 static int ended(apsp *network) {
@@ -118,7 +144,11 @@ static int refusal(const char *reply, uint64_t *line) {
         return APSP_OK;
     }
     *line = strtoull(reply + 5, &behind, 10);
-    return strncmp(behind, " error ", 7) == 0 ? (int)strtoul(behind + 7, NULL, 10) : APSP_OK;
+    if (strncmp(behind, " error ", 7) != 0) {
+        return APSP_OK;
+    }
+    int code = (int)strtoul(behind + 7, &behind, 10);
+    return code > 0 && strncmp(behind, " at ", 4) == 0 ? code : APSP_OK;
 }
 
 /* Asks what the line has, and leaves the reply, which has to begin as the question does. */
@@ -195,37 +225,82 @@ __attribute__((format(printf, 2, 3))) static void put(apsp *network, const char 
     va_end(values);
 }
 
-/* The number of a reply behind so many words, or APSP_NONE. Moves the place behind it. */
-static int take_number(char **place, uint64_t *number) {
-    *place += strspn(*place, " ");
-    if (strncmp(*place, "none", 4) == 0) {
-        *place += 4;
-        return APSP_NONE;
-    }
-    *number = strtoull(*place, place, 10);
-    return APSP_OK;
-}
-
 static char *skip_words(char *place, int count) {
     while (count-- > 0) {
         place += strcspn(place, " \n");
-        place += strspn(place, " ");
+        place += *place == ' ';
     }
     return place;
 }
 
-/* The vertices of a walk, which stand behind its weight and the word walk. */
-static int take_walk(char *place, uint32_t *vertices, size_t *count) {
-    *count = 0;
-    place = skip_words(place + 1, 1);
-    while (*place && *place != '\n' && *count < APSP_MOST_VERTICES) {
-        vertices[(*count)++] = (uint32_t)strtoul(place, &place, 10);
-        place += strspn(place, " ");
+/* Whether this word stands at the place, which then moves behind it. */
+static int take_word(char **place, const char *word) {
+    size_t length = strlen(word);
+    if (strncmp(*place, word, length) != 0 || ((*place)[length] != ' ' && (*place)[length] != '\n')) {
+        return 0;
     }
+    *place += length + ((*place)[length] == ' ');
+    return 1;
+}
+
+/* The number at the place, which moves behind it; APSP_NONE where the word none stands there, and APSP_ENDED where there is
+ * neither. */
+static int take_number(char **place, uint64_t *number) {
+    char *behind;
+    if (take_word(place, "none")) {
+        return APSP_NONE;
+    }
+    if (**place < '0' || **place > '9') {
+        return APSP_ENDED;
+    }
+    uint64_t found = strtoull(*place, &behind, 10);
+    if (*behind != ' ' && *behind != '\n') {
+        return APSP_ENDED;
+    }
+    *place = behind + (*behind == ' ');
+    *number = found;
     return APSP_OK;
 }
 
+/* The number behind this word. */
+static int take_named(char **place, const char *word, uint64_t *number) {
+    return take_word(place, word) && take_number(place, number) == APSP_OK ? APSP_OK : APSP_ENDED;
+}
+
+/* The vertices from the place to the end of the line, of which there are `n`, into an array unless that is NULL. */
+static int take_vertices(char **place, uint32_t n, uint32_t *vertices, size_t *count) {
+    *count = 0;
+    while (**place != '\n') {
+        uint64_t v;
+        if (take_number(place, &v) || v >= n || *count == APSP_MOST_VERTICES) {
+            return APSP_ENDED;
+        }
+        if (vertices) {
+            vertices[*count] = (uint32_t)v;
+        }
+        ++*count;
+    }
+    return *count > 0 ? APSP_OK : APSP_ENDED;
+}
+
+/* A walk, which stands behind its weight, or APSP_NONE. */
+static int take_walk(char **place, uint32_t n, uint64_t *distance, uint32_t *vertices, size_t *count) {
+    int end = take_number(place, distance);
+    if (end) {
+        return end;
+    }
+    return take_word(place, "walk") ? take_vertices(place, n, vertices, count) : APSP_ENDED;
+}
+
+/* The answer of a call whose reply was taken up to this place. A reply that goes on there, or that did not fit its question
+ * before, ends the network. */
+static int answered(apsp *network, int answer, const char *place) {
+    return answer == APSP_ENDED || strcmp(place, "\n") != 0 ? ended(network) : answer;
+}
+
 static void in_child(const char *program, char **words, int to, int from) {
+    /* In a session of its own, so that a ^C at the terminal reaches the caller alone. */
+    setsid();
     if (dup2(to, 0) == 0 && dup2(from, 1) == 1) {
         execvp(program, words);
     }
@@ -399,45 +474,117 @@ int apsp_cut(apsp *network, uint32_t u, uint32_t v) {
     return update(network);
 }
 
+int apsp_grow(apsp *network, uint32_t n) {
+    put(network, "grow %" PRIu32 "\n", n);
+    int end = update(network);
+    if (!end) {
+        network->vertices = n;
+    }
+    return end;
+}
+
+uint32_t apsp_vertices(const apsp *network) {
+    return network->vertices;
+}
+
 int apsp_dist(apsp *network, uint32_t x, uint32_t y, uint64_t *distance) {
     put(network, "dist %" PRIu32 " %" PRIu32 "\n", x, y);
     int end = ask(network);
+    if (end) {
+        return end;
+    }
     char *place = skip_words(network->reply, 3);
-    return end ? end : take_number(&place, distance);
+    end = take_number(&place, distance);
+    return answered(network, end, place);
 }
 
 int apsp_path(apsp *network, uint32_t x, uint32_t y, uint64_t *distance, uint32_t *vertices, size_t *count) {
     put(network, "path %" PRIu32 " %" PRIu32 "\n", x, y);
     int end = ask(network);
-    char *place = skip_words(network->reply, 3);
-    if (end || (end = take_number(&place, distance))) {
+    if (end) {
         return end;
     }
-    return take_walk(place, vertices, count);
+    char *place = skip_words(network->reply, 3);
+    end = take_walk(&place, network->vertices, distance, vertices, count);
+    if (!end && (vertices[0] != x || vertices[*count - 1] != y)) {
+        return ended(network);
+    }
+    return answered(network, end, place);
 }
 
 int apsp_row(apsp *network, uint32_t x, uint64_t *distances) {
     put(network, "row %" PRIu32 "\n", x);
     int end = ask(network);
+    if (end) {
+        return end;
+    }
     char *place = skip_words(network->reply, 2);
-    for (uint32_t y = 0; !end && y < network->vertices; y++) {
-        if (take_number(&place, &distances[y])) {
+    for (uint32_t y = 0; y < network->vertices; y++) {
+        int found = take_number(&place, &distances[y]);
+        if (found == APSP_NONE) {
             distances[y] = APSP_NO_WALK;
+        } else if (found) {
+            return ended(network);
         }
     }
-    return end;
+    return answered(network, APSP_OK, place);
+}
+
+int apsp_eccentricity(apsp *network, uint32_t x, uint64_t *far, uint32_t *reach) {
+    uint64_t count = 0;
+    put(network, "ecc %" PRIu32 "\n", x);
+    int end = ask(network);
+    if (end) {
+        return end;
+    }
+    char *place = skip_words(network->reply, 2);
+    if (take_named(&place, "far", far) || take_named(&place, "reach", &count) || count > network->vertices) {
+        return ended(network);
+    }
+    *reach = (uint32_t)count;
+    return answered(network, APSP_OK, place);
+}
+
+int apsp_report(apsp *network, uint64_t *diameter, uint64_t *radius, uint32_t *centre, size_t *count) {
+    put(network, "report\n");
+    int end = ask(network);
+    if (end) {
+        return end;
+    }
+    char *place = skip_words(network->reply, 1);
+    if (take_named(&place, "diameter", diameter) || !take_word(&place, "radius")) {
+        return ended(network);
+    }
+    *count = 0;
+    end = take_number(&place, radius);
+    if (!end) {
+        end = take_word(&place, "centre") ? take_vertices(&place, network->vertices, centre, count) : APSP_ENDED;
+    }
+    return answered(network, end, place);
+}
+
+int apsp_through(apsp *network, uint32_t v, uint64_t *pairs) {
+    put(network, "through %" PRIu32 "\n", v);
+    int end = ask(network);
+    if (end) {
+        return end;
+    }
+    char *place = skip_words(network->reply, 2);
+    end = take_named(&place, "pairs", pairs);
+    return answered(network, end, place);
 }
 
 int apsp_stats(apsp *network, struct apsp_stats *stats) {
-    put(network, "stats\n");
-    int end = ask(network);
+    static const char *const words[] = {"updates", "steps", "paths", "historical", "formed", "removed"};
     uint64_t *numbers[] = {&stats->updates,    &stats->steps,  &stats->paths,
                            &stats->historical, &stats->formed, &stats->removed};
+    put(network, "stats\n");
+    int end = ask(network);
+    char *place = end ? NULL : skip_words(network->reply, 1);
     for (int i = 0; !end && i < 6; i++) {
-        char *place = skip_words(network->reply, 2 * i + 2);
-        take_number(&place, numbers[i]);
+        end = take_named(&place, words[i], numbers[i]);
     }
-    return end;
+    return place ? answered(network, end, place) : end;
 }
 
 int apsp_age(apsp *network, const uint32_t *vertices, size_t count, uint64_t *birth) {
@@ -453,8 +600,9 @@ int apsp_age(apsp *network, const uint32_t *vertices, size_t count, uint64_t *bi
     if (end) {
         return end;
     }
-    char *place = strrchr(network->reply, ' ');
-    return take_number(&place, birth);
+    char *place = skip_words(network->reply, (int)count + 1);
+    end = take_word(&place, "none") ? APSP_NONE : take_named(&place, "birth", birth);
+    return answered(network, end, place);
 }
 
 struct text {
@@ -646,13 +794,15 @@ static int exchange(apsp *network, const struct text *sent, struct text *got) {
 }
 
 /* Whether a reply of a block is one to this question. */
-static int answers(const char *reply, const struct question *question) {
-    char *place;
-    strtoull(reply + 3, &place, 10);
-    if (strncmp(place, " path ", 6) != 0) {
+static int answers(char *reply, uint32_t n, const struct question *question) {
+    uint64_t number, x = 0, y = 0, distance;
+    size_t count;
+    char *place = reply;
+    if (take_named(&place, "at", &number) || take_named(&place, "path", &x) || take_number(&place, &y) || x != question->x ||
+        y != question->y) {
         return 0;
     }
-    return strtoul(place + 6, &place, 10) == question->x && strtoul(place, &place, 10) == question->y && *place == ' ';
+    return take_walk(&place, n, &distance, NULL, &count) != APSP_ENDED && *place == '\n';
 }
 
 /* Hands each reply to its question, and gives the code of the first refused line, whose place it leaves. */
@@ -686,7 +836,7 @@ static int take_replies(apsp_block *block, uint64_t before, size_t *refused) {
         while (next < block->asked && block->questions[next].code) {
             next++;
         }
-        if (next == block->asked || strncmp(reply, "at ", 3) != 0 || !answers(reply, &block->questions[next])) {
+        if (next == block->asked || !answers(reply, block->network->vertices, &block->questions[next])) {
             return APSP_ENDED;
         }
         block->questions[next++].reply = (size_t)(reply - block->replies.bytes);
@@ -736,8 +886,9 @@ int apsp_block_answer(const apsp_block *block, size_t i, uint64_t *number, uint6
     if (block->questions[i].code) {
         return block->questions[i].code;
     }
+    /* That it is of this form was seen when the block was run. */
     char *place = block->replies.bytes + block->questions[i].reply + 3;
-    *number = strtoull(place, &place, 10);
-    place = skip_words(place + 1, 3);
-    return take_number(&place, distance) ? APSP_NONE : take_walk(place, vertices, count);
+    take_number(&place, number);
+    place = skip_words(place, 3);
+    return take_walk(&place, APSP_MOST_VERTICES, distance, vertices, count);
 }

@@ -1,11 +1,14 @@
 /* A client of apsp: all shortest paths of a directed graph whose edges change, kept by the program behind two pipes.
  *
- * Vertices are numbers from 0 on, weights 0 to 4294967295. Each call answers APSP_OK, APSP_NONE where there is no walk
- * or no such path, the code of a refusal (1 to 14, apsp_name), which changes nothing, or APSP_ENDED where the program
- * ended, its input is full, a reply did not fit its question or the caller is a forked child, after which apsp_close gives
- * its status. A signal that a handler takes changes nothing. A network is one process and serves one thread at a time;
- * two networks may serve two threads. A session takes 16,777,216 bytes of input in all. No call takes memory but those that
- * open a network, apsp_certificate, and those that build and run a block. */
+ * Vertices are numbers from 0 on, weights 0 to 4294967295, and distances are in the unit of the weights, below 2^42. Each
+ * call answers APSP_OK, APSP_NONE where there is no walk or no such path, the code of a refusal (1 to 16, see apsp_name and
+ * apsp_expected), which changes nothing, or APSP_ENDED where the program ended, its input is full, a reply did not fit its
+ * question or the caller is a forked child, after which apsp_close gives its status. What is answered stands in the places
+ * that a call is given with APSP_OK alone, unless it says otherwise.
+ *
+ * A signal that a handler takes changes nothing, and a ^C at the terminal does not reach the program. A network is one
+ * process and serves one thread at a time; two networks may serve two threads. A session takes 16,777,216 bytes of input in
+ * all. No call takes memory but those that open a network, apsp_certificate, and those that build and run a block. */
 #ifndef APSP_H
 #define APSP_H
 
@@ -33,7 +36,9 @@ enum {
     APSP_NEEDS_LIVE,
     APSP_BLOCK_FULL,
     APSP_OPEN_BLOCK,
-    APSP_SINCE
+    APSP_SINCE,
+    APSP_NOT_MORE,
+    APSP_NOT_SERVED
 };
 
 /* The most vertices of a network, and a distance that stands for none in a row. */
@@ -89,14 +94,33 @@ int apsp_load(apsp *network, const struct apsp_edge *edges, size_t count, uint32
 int apsp_edge(apsp *network, uint32_t u, uint32_t v, uint32_t w);
 int apsp_cut(apsp *network, uint32_t u, uint32_t v);
 
+/* Adds vertices without edges, behind those that there are, so that there are n: one update, which keeps all paths.
+ * APSP_NOT_MORE where n is not above the present number, and APSP_VERTEX where it is above APSP_MOST_VERTICES. */
+int apsp_grow(apsp *network, uint32_t n);
+
+/* The present number of vertices. It asks nothing. */
+uint32_t apsp_vertices(const apsp *network);
+
 /* The weight of the least walk from x to y. */
 int apsp_dist(apsp *network, uint32_t x, uint32_t y, uint64_t *distance);
 
 /* The least walk: its weight and its vertices, of which there are at most APSP_MOST_VERTICES. */
 int apsp_path(apsp *network, uint32_t x, uint32_t y, uint64_t *distance, uint32_t *vertices, size_t *count);
 
-/* The distances from x to 0, 1, .. n - 1, each APSP_NO_WALK where there is no walk. */
+/* The distances from x to 0, 1, .. n - 1, each APSP_NO_WALK where there is no walk; n is apsp_vertices. */
 int apsp_row(apsp *network, uint32_t x, uint64_t *distances);
+
+/* How far x reaches: the greatest distance from it, and the number of vertices that a walk from it leads to, itself among
+ * them. */
+int apsp_eccentricity(apsp *network, uint32_t x, uint64_t *far, uint32_t *reach);
+
+/* The whole network: its diameter, which is the greatest distance that there is; its radius, which is the least far of the
+ * vertices that reach all; and its centre, those of them whose far is the radius, of which there are at most
+ * APSP_MOST_VERTICES. Where no vertex reaches all: APSP_NONE, the diameter, and a count of 0. */
+int apsp_report(apsp *network, uint64_t *diameter, uint64_t *radius, uint32_t *centre, size_t *count);
+
+/* How many pairs of different vertices, both other than v, have v in their least walk. */
+int apsp_through(apsp *network, uint32_t v, uint64_t *pairs);
 
 int apsp_stats(apsp *network, struct apsp_stats *stats);
 
@@ -130,8 +154,9 @@ int apsp_block_answer(const apsp_block *block, size_t i, uint64_t *number, uint6
 
 void apsp_block_free(apsp_block *block);
 
-/* The name of a refusal's code. */
+/* The name of a refusal's code, and what was expected there; "" for any other number. */
 const char *apsp_name(int code);
+const char *apsp_expected(int code);
 
 #ifdef __cplusplus
 }

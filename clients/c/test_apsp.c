@@ -7,6 +7,7 @@
 #include <stdio.h>
 #include <stdlib.h>
 #include <string.h>
+#include <sys/stat.h>
 #include <sys/time.h>
 #include <sys/wait.h>
 #include <unistd.h>
@@ -61,6 +62,185 @@ static void two_stars(const char *program) {
     EXPECT(text && strncmp(text, "apsp certificate ", 17) == 0 && strstr(text, "\nnumber 5\n"));
     free(text);
     EXPECT(apsp_close(network) == 1);
+}
+
+static void grows(const char *program) {
+    uint64_t distance = 0, row[APSP_MOST_VERTICES];
+    uint32_t walk[APSP_MOST_VERTICES];
+    size_t count = 0;
+    struct apsp_stats stats;
+    struct apsp_edge edges[] = {{0, 1, 1}, {1, 2, 1}, {2, 3, 1}, {3, 0, 1}};
+    apsp *network = apsp_open(program, 2, 0);
+    EXPECT(network != NULL);
+    if (!network) {
+        return;
+    }
+    EXPECT(apsp_vertices(network) == 2 && apsp_edge(network, 0, 1, 5) == APSP_OK);
+    EXPECT(apsp_load(network, edges, 4, NULL) == APSP_VERTEX);
+    EXPECT(apsp_grow(network, 4) == APSP_OK && apsp_vertices(network) == 4);
+    EXPECT(apsp_row(network, 0, row) == APSP_OK && row[0] == 0 && row[1] == 5);
+    EXPECT(row[2] == APSP_NO_WALK && row[3] == APSP_NO_WALK);
+    EXPECT(apsp_stats(network, &stats) == APSP_OK && stats.updates == 2 && stats.steps == 2 && stats.paths == 1);
+    EXPECT(apsp_edge(network, 1, 3, 2) == APSP_OK);
+    EXPECT(apsp_path(network, 0, 3, &distance, walk, &count) == APSP_OK && distance == 7 && count == 3 && walk[2] == 3);
+    EXPECT(apsp_grow(network, 4) == APSP_NOT_MORE && apsp_grow(network, 3) == APSP_NOT_MORE);
+    EXPECT(apsp_grow(network, 0) == APSP_VERTEX && apsp_grow(network, 513) == APSP_VERTEX);
+    EXPECT(strcmp(apsp_name(apsp_grow(network, 4)), "NotMore") == 0 && apsp_vertices(network) == 4);
+    EXPECT(strcmp(apsp_expected(APSP_NOT_MORE), "a number of vertices above the present one") == 0);
+    EXPECT(apsp_load(network, edges, 4, NULL) == APSP_OK);
+    EXPECT(apsp_grow(network, APSP_MOST_VERTICES) == APSP_OK && apsp_row(network, 3, row) == APSP_OK);
+    EXPECT(row[0] == 1 && row[2] == 3 && row[APSP_MOST_VERTICES - 1] == APSP_NO_WALK);
+    EXPECT(apsp_grow(network, APSP_MOST_VERTICES) == APSP_NOT_MORE);
+    EXPECT(apsp_close(network) == 1);
+
+    network = apsp_open_live(program, 1, 0, 2, 4);
+    EXPECT(apsp_grow(network, 3) == APSP_OK);
+    apsp_block *block = apsp_block_new(network);
+    EXPECT(apsp_block_edge(block, 0, 2, 6) == APSP_OK && apsp_block_ask(block, 0, 2, 1) == APSP_OK);
+    EXPECT(apsp_block_run(block, NULL) == APSP_OK);
+    EXPECT(apsp_block_answer(block, 0, &row[0], &distance, walk, &count) == APSP_OK && row[0] == 2 && distance == 6);
+    apsp_block_free(block);
+    EXPECT(apsp_close(network) == 0);
+}
+
+static void reports(const char *program) {
+    const struct apsp_item zero[] = {{1, 4}, {2, 9}}, out[] = {{2, 3}}, in[] = {{0, 4}};
+    uint64_t diameter = 1, radius = 1, far = 0, pairs = 9;
+    uint32_t centre[APSP_MOST_VERTICES], reach = 0;
+    size_t count = 9;
+    apsp *network = apsp_open(program, 3, 0);
+    EXPECT(network != NULL);
+    if (!network) {
+        return;
+    }
+    EXPECT(apsp_report(network, &diameter, &radius, centre, &count) == APSP_NONE && diameter == 0 && count == 0);
+    EXPECT(apsp_star(network, 0, zero, 2, NULL, 0) == APSP_OK && apsp_star(network, 1, out, 1, in, 1) == APSP_OK);
+    EXPECT(apsp_eccentricity(network, 0, &far, &reach) == APSP_OK && far == 7 && reach == 3);
+    EXPECT(apsp_eccentricity(network, 2, &far, &reach) == APSP_OK && far == 0 && reach == 1);
+    EXPECT(apsp_report(network, &diameter, &radius, centre, &count) == APSP_OK && diameter == 7 && radius == 7);
+    EXPECT(count == 1 && centre[0] == 0);
+    EXPECT(apsp_through(network, 1, &pairs) == APSP_OK && pairs == 1);
+    EXPECT(apsp_through(network, 2, &pairs) == APSP_OK && pairs == 0);
+    EXPECT(apsp_through(network, 3, &pairs) == APSP_VERTEX && apsp_eccentricity(network, 3, &far, &reach) == APSP_VERTEX);
+    /* A ring of four, whose vertices are all in its centre. */
+    const struct apsp_edge edges[] = {{0, 1, 1}, {1, 2, 1}, {2, 3, 1}, {3, 0, 1}};
+    EXPECT(apsp_grow(network, 4) == APSP_OK && apsp_load(network, edges, 4, NULL) == APSP_OK);
+    EXPECT(apsp_report(network, &diameter, &radius, centre, &count) == APSP_OK && diameter == 3 && radius == 3);
+    EXPECT(count == 4 && centre[0] == 0 && centre[3] == 3);
+    EXPECT(apsp_through(network, 1, &pairs) == APSP_OK && pairs == 3);
+    EXPECT(apsp_close(network) == 1);
+}
+
+/* Replies that do not fit what was asked end the network, and none becomes an answer. */
+static const char CANNED[] = "#!/bin/sh\nwhile read -r line; do case $line in 'dist 0 0') echo 'dist 0 0 0' ;; vertices*) ;; "
+                             "*) echo '%s' ;; esac; done\n";
+
+static int asked_of(const char *program, const char *reply, int question) {
+    uint64_t one, two, row[APSP_MOST_VERTICES];
+    uint32_t list[APSP_MOST_VERTICES];
+    size_t count;
+    struct apsp_stats stats;
+    FILE *script = fopen(program, "w");
+    if (!script) {
+        return APSP_MEMORY;
+    }
+    fprintf(script, CANNED, reply);
+    fclose(script);
+    apsp *network = apsp_open(program, 3, 0);
+    int end = APSP_MEMORY;
+    for (int again = 0; network && again < 2; again++) {
+        int before = end;
+        end = question == 0   ? apsp_eccentricity(network, 1, &one, list)
+              : question == 1 ? apsp_report(network, &one, &two, list, &count)
+              : question == 2 ? apsp_through(network, 2, &one)
+              : question == 3 ? apsp_dist(network, 0, 1, &one)
+              : question == 4 ? apsp_path(network, 0, 2, &one, list, &count)
+              : question == 5 ? apsp_row(network, 0, row)
+              : question == 6 ? apsp_stats(network, &stats)
+                              : apsp_age(network, (uint32_t[]){0, 1}, 2, &one);
+        EXPECT(again == 0 || end == before);
+    }
+    EXPECT(!network || end != APSP_ENDED || apsp_dist(network, 0, 0, &one) == APSP_ENDED);
+    apsp_close(network);
+    return end;
+}
+
+static void replies(void) {
+    static const struct {
+        int question, answer;
+        const char *reply;
+    } tried[] = {
+        {0, APSP_OK, "ecc 1 far 7 reach 3"},
+        {0, APSP_ENDED, "ecc 0 far 7 reach 3"},
+        {0, APSP_ENDED, "ecc 1 far 7"},
+        {0, APSP_ENDED, "ecc 1 far 7 reach"},
+        {0, APSP_ENDED, "ecc 1 far x reach 3"},
+        {0, APSP_ENDED, "ecc 1 reach 3 far 7"},
+        {0, APSP_ENDED, "ecc 1 far 7 reach 3 4"},
+        {0, APSP_ENDED, "ecc 1 far none reach 3"},
+        {0, APSP_ENDED, "ecc 1 far 7 reach 4"},
+        {0, APSP_ENDED, "ecc 11 far 7 reach 3"},
+        {0, APSP_ENDED, "line 9 error 6 at 2"},
+        {0, APSP_ENDED, "line 3 error six at 2"},
+        {0, APSP_ENDED, ""},
+        {1, APSP_OK, "report diameter 7 radius 7 centre 0 2"},
+        {1, APSP_NONE, "report diameter 7 radius none"},
+        {1, APSP_ENDED, "report diameter 7"},
+        {1, APSP_ENDED, "report"},
+        {1, APSP_ENDED, "report diameter 7 radius 7"},
+        {1, APSP_ENDED, "report diameter 7 radius 7 centre"},
+        {1, APSP_ENDED, "report diameter 7 radius 7 centre 3"},
+        {1, APSP_ENDED, "report diameter 7 radius 7 centre 0 0 0 0 x"},
+        {1, APSP_ENDED, "report diameter none radius none"},
+        {1, APSP_ENDED, "report diameter 7 radius none centre 0"},
+        {1, APSP_ENDED, "report radius 7 diameter 7 centre 0"},
+        {1, APSP_ENDED, "reports diameter 7 radius none"},
+        {2, APSP_OK, "through 2 pairs 0"},
+        {2, APSP_ENDED, "through 1 pairs 0"},
+        {2, APSP_ENDED, "through 2 pairs"},
+        {2, APSP_ENDED, "through 2 0"},
+        {2, APSP_ENDED, "through 2 pairs none"},
+        {2, APSP_ENDED, "through 2 pairs 0 1"},
+        {3, APSP_OK, "dist 0 1 5"},
+        {3, APSP_NONE, "dist 0 1 none"},
+        {3, APSP_ENDED, "dist 1 0 5"},
+        {3, APSP_ENDED, "dist 0 1"},
+        {3, APSP_ENDED, "dist 0 1 x"},
+        {3, APSP_ENDED, "dist 0 1 5 5"},
+        {4, APSP_OK, "path 0 2 5 walk 0 1 2"},
+        {4, APSP_NONE, "path 0 2 none"},
+        {4, APSP_ENDED, "path 0 2 5"},
+        {4, APSP_ENDED, "path 0 2 5 walk"},
+        {4, APSP_ENDED, "path 0 2 5 walk 0 1"},
+        {4, APSP_ENDED, "path 0 2 5 walk 1 2"},
+        {4, APSP_ENDED, "path 0 2 5 walk 0 3 2"},
+        {4, APSP_ENDED, "path 0 2 none walk 0 2"},
+        {5, APSP_OK, "row 0 0 5 none"},
+        {5, APSP_ENDED, "row 0 0 5"},
+        {5, APSP_ENDED, "row 0 0 5 none none"},
+        {5, APSP_ENDED, "row 0 0 5 x"},
+        {6, APSP_OK, "stats updates 1 steps 2 paths 3 historical 4 formed 5 removed 6"},
+        {6, APSP_ENDED, "stats updates 1 steps 2"},
+        {6, APSP_ENDED, "stats updates 1 paths 3 shortest 3"},
+        {7, APSP_OK, "age 0 1 birth 3"},
+        {7, APSP_NONE, "age 0 1 none"},
+        {7, APSP_ENDED, "age 0 1"},
+        {7, APSP_ENDED, "age 0 1 2 birth 3"},
+    };
+    char folder[] = "/tmp/apsp-test-XXXXXX", program[64];
+    EXPECT(mkdtemp(folder) != NULL);
+    snprintf(program, sizeof program, "%s/canned", folder);
+    FILE *script = fopen(program, "w");
+    EXPECT(script && fclose(script) == 0 && chmod(program, 0755) == 0);
+    for (size_t i = 0; i < sizeof tried / sizeof *tried; i++) {
+        int end = asked_of(program, tried[i].reply, tried[i].question);
+        if (end != tried[i].answer) {
+            printf("test_apsp.c: '%s' answers %d\n", tried[i].reply, end);
+            failed++;
+        }
+    }
+    unlink(program);
+    rmdir(folder);
 }
 
 static void smoothing(const char *program) {
@@ -245,6 +425,25 @@ static void signals(const char *program) {
     EXPECT(apsp_close(network) == 0);
 }
 
+/* A ^C goes to all processes of the terminal's group, of which the program is none. */
+static void interrupts(const char *program) {
+    int status = 1;
+    pid_t child = fork();
+    if (child == 0) {
+        uint64_t distance = 0;
+        setpgid(0, 0);
+        signal(SIGINT, ring_once);
+        rung = 0;
+        apsp *network = apsp_open(program, 2, 0);
+        int wrong = apsp_edge(network, 0, 1, 5) != APSP_OK;
+        kill(0, SIGINT);
+        wrong |= apsp_dist(network, 0, 1, &distance) != APSP_OK || distance != 5 || rung != 1;
+        wrong |= apsp_close(network) != 0;
+        _exit(wrong);
+    }
+    EXPECT(waitpid(child, &status, 0) == child && WIFEXITED(status) && WEXITSTATUS(status) == 0);
+}
+
 /* A forked child gets no answer, and does not keep the program from its end. */
 static void forks(const char *program) {
     apsp *network = apsp_open(program, 3, 0);
@@ -272,6 +471,9 @@ int main(int count, char **words) {
         return 2;
     }
     two_stars(words[1]);
+    grows(words[1]);
+    reports(words[1]);
+    replies();
     smoothing(words[1]);
     ring(words[1]);
     many_edges(words[1]);
@@ -279,7 +481,10 @@ int main(int count, char **words) {
     blocks(words[1]);
     threads(words[1]);
     signals(words[1]);
+    interrupts(words[1]);
     forks(words[1]);
+    EXPECT(strcmp(apsp_name(APSP_NOT_SERVED), "NotServed") == 0 && *apsp_expected(APSP_NOT_SERVED));
+    EXPECT(*apsp_name(0) == 0 && *apsp_name(17) == 0 && *apsp_expected(-1) == 0);
     EXPECT(apsp_close(NULL) == -1);
     EXPECT(apsp_open(words[1], 513, 0) == NULL);
     EXPECT(apsp_open("/nonexistent", 3, 0) == NULL);

@@ -9,7 +9,10 @@
     with Network.from_edges([("a", "b", 4), ("b", "c", 3)]) as network:
         network.path("a", "c")          # Path(distance=7, vertices=['a', 'b', 'c'])
 
-Vertices are numbers from 0 on, or the names that `from_edges` was given; weights are whole numbers from 0 to 4294967295.
+Vertices are numbers from 0 on, or the names that `from_edges` was given, and `add_vertices` adds more, up to 512; weights are
+whole numbers from 0 to 4294967295. `report`, `eccentricity` and `through` say how far the network reaches and what passes
+a vertex.
+
 A refused call raises the exception that has the name of its code (`Vertex`, `SelfEdge`, `Weight`, ..) and changes nothing;
 the network goes on. Where the program ended, each call raises `Ended`.
 
@@ -23,24 +26,29 @@ measured.
 """
 
 import os
+import re
 import select
 import shutil
 import subprocess
 import threading
 import weakref
 from operator import index
-from typing import Any, Dict, Hashable, Iterable, Iterator, List, Mapping, NamedTuple, Optional, Sequence, Tuple
+from typing import (Any, Callable, Dict, Hashable, Iterable, Iterator, List, Mapping, NamedTuple, Optional, Sequence, Tuple,
+                    TypeVar)
 
 __version__ = "0.1.0"
 __all__ = [
-    "Answer", "Block", "Command", "Ended", "Error", "InputFull", "NeedsLive", "Network", "NoVertices", "Number", "OpenBlock",
-    "BlockFull", "Path", "Refused", "Repeat", "SelfEdge", "Shape", "Since", "Stats", "TooLong", "Vertex", "VerticesTwice",
-    "Weight", "check", "program_path",
+    "Answer", "Block", "BlockFull", "Command", "Eccentricity", "Ended", "Error", "InputFull", "NeedsLive", "Network", "NotMore",
+    "NotServed", "NoVertices", "Number", "OpenBlock", "Path", "Refused", "Repeat", "Report", "SelfEdge", "Shape", "Since",
+    "Stats", "TooLong", "Vertex", "VerticesTwice", "Weight", "check", "program_path",
 ]
 
 MOST_INPUT = 16777216
 MOST_LINE = 65536
 MOST_IN_BLOCK = 65536
+
+_T = TypeVar("_T")
+_REFUSED = re.compile(r"line (\d+) error (\d+) at (\d+)", re.ASCII)
 
 STATUSES = {
     2: "its words are not understood",
@@ -161,9 +169,21 @@ class Since(Refused):
     code, expected = 14, "no more updates than stand before it in its block"
 
 
+class NotMore(Refused):
+    """The network has that many vertices already."""
+
+    code, expected = 15, "a number of vertices above the present one"
+
+
+class NotServed(Refused):
+    """The program has the command, but not in this mode."""
+
+    code, expected = 16, "a command that the program serves in this mode"
+
+
 REFUSALS = {kind.code: kind for kind in (
     NoVertices, VerticesTwice, Command, Shape, Number, Vertex, SelfEdge, Repeat, Weight, TooLong, NeedsLive, BlockFull,
-    OpenBlock, Since)}
+    OpenBlock, Since, NotMore, NotServed)}
 
 
 class Ended(Error):
@@ -207,6 +227,23 @@ class Stats(NamedTuple):
     historical: int
     formed: int
     removed: int
+
+
+class Eccentricity(NamedTuple):
+    """How far a vertex reaches: the greatest distance from it, in the unit of the weights, and the number of vertices that a
+    walk from it leads to, itself among them."""
+
+    far: int
+    reach: int
+
+
+class Report(NamedTuple):
+    """Of the whole network: the diameter, which is the greatest distance that there is; the radius, which is the least far of
+    the vertices that reach all, and None where no vertex does; and the centre, the vertices whose far is the radius."""
+
+    diameter: int
+    radius: Optional[int]
+    centre: List[Any]
 
 
 def program_path() -> str:
@@ -302,8 +339,32 @@ def _drop_all() -> None:
 os.register_at_fork(after_in_child=_drop_all)
 
 
+# What a reply says. A ValueError or an IndexError says that the reply is not of the form of its question.
+
+def _number(word: str) -> int:
+    if not (word.isascii() and word.isdigit()):
+        raise ValueError(word)
+    return int(word)
+
+
 def _distance(word: str) -> Optional[int]:
-    return None if word == "none" else int(word)
+    return None if word == "none" else _number(word)
+
+
+def _one(words: List[str]) -> Optional[int]:
+    (word,) = words
+    return _distance(word)
+
+
+def _birth(words: List[str]) -> Optional[int]:
+    return None if words == ["none"] else _labelled(words, "birth")[0]
+
+
+def _labelled(words: List[str], *labels: str) -> List[int]:
+    """The numbers behind these words, which alternate with them."""
+    if words[0::2] != list(labels) or len(words) != 2 * len(labels):
+        raise ValueError(words)
+    return [_number(word) for word in words[1::2]]
 
 
 class Network:
@@ -335,7 +396,8 @@ class Network:
                    **options: Any) -> "Network":
         """A network of named vertices with these edges, (from, to, weight), all written at once, one star a vertex.
         `names` are all vertices, also those without an edge; without it they come in the order of the edges. The options
-        are those of `Network`. An edge that is listed twice is refused (`Repeat`)."""
+        are those of `Network`. An edge that is listed twice is refused (`Repeat`), and one from a vertex to itself is
+        left out, since no least walk has it."""
         edges = list(edges)
         order = dict.fromkeys(names if names is not None else (end for u, v, _ in edges for end in (u, v)))
         network = cls(len(order), **options)
@@ -343,17 +405,17 @@ class Network:
             network._names = list(order)
             network._places = {name: place for place, name in enumerate(order)}
             out: Dict[int, List[Tuple[int, int]]] = {}
+            into: Dict[int, Dict[int, int]] = {}
             for u, v, w in edges:
-                out.setdefault(network._place(u), []).append((network._place(v), index(w)))
+                if u != v:
+                    out.setdefault(network._place(u), []).append((network._place(v), index(w)))
+                    into.setdefault(network._place(v), {})[network._place(u)] = index(w)
             lines, changes = [], []
-            # The star of a vertex has its edges to all, and those from the vertices that come behind it.
-            for u in sorted({end for x, items in out.items() for end in [x] + [y for y, _ in items]}):
-                back = {x: w for x, items in out.items() if x > u for y, w in items if y == u}
-                here = [(y, w) for y, w in out.get(u, []) if y > u] + [(y, w) for y, w in out.get(u, []) if y < u]
-                into = {x: w for x, items in out.items() if x < u for y, w in items if y == u}
-                into.update(back)
-                lines.append(_star_line(u, here, list(into.items())))
-                changes.append(("star", u, dict(here), into))
+            for v in sorted(set(out) | set(into)):
+                # As listed, so that an edge that stands twice is refused.
+                here, back = out.get(v, []), into.get(v, {})
+                lines.append(_star_line(v, here, list(back.items())))
+                changes.append(("star", v, dict(here), back))
             network._update_all(lines, changes)
         except BaseException:
             network.close()
@@ -441,6 +503,23 @@ class Network:
         with self._lock:
             self._update(*self._cut(u, v))
 
+    def add_vertices(self, count: Optional[int] = None, names: Optional[Iterable[Hashable]] = None) -> List[Any]:
+        """Adds so many vertices without edges, behind those that there are, and gives them: their numbers, or in a network of
+        named vertices the `names`, which stand in place of the count there. One update, which keeps all paths. At most 512
+        vertices are there then (`Vertex`), and one more than before (`NotMore`)."""
+        with self._lock:
+            if (names is None) != (self._names is None):
+                what = "no names" if self._names is None else "names: give names"
+                raise ValueError(f"the vertices of this network have {what}")
+            new: List[Any] = [] if names is None else list(names)
+            if names is not None and count not in (None, len(new)):
+                raise ValueError(f"{len(new)} names are no {count} vertices")
+            if len(dict.fromkeys(new)) < len(new) or any(name in self._places for name in new):
+                raise ValueError(f"a vertex is named {next(x for x in new if x in self._places or new.count(x) > 1)!r} already")
+            first, more = self._count, len(new) if names is not None else 1 if count is None else index(count)
+            self._update(f"grow {first + more}", ("grow", first + more, new))
+            return new if names is not None else list(range(first, first + more))
+
     def set_edges(self, edges: Iterable[Tuple[Any, Any, int]]) -> None:
         """Sets many edges, (from, to, weight), one update each, all written before the first reply is waited for. The
         first refusal is raised when all are made that can be."""
@@ -450,27 +529,41 @@ class Network:
 
     def dist(self, x: Any, y: Any) -> Optional[int]:
         """The weight of the least walk from x to y, and None where there is no walk. One look-up."""
-        return _distance(self._ask(f"dist {self._place(x)} {self._place(y)}")[0])
+        return self._ask(f"dist {self._place(x)} {self._place(y)}", _one)
 
     def path(self, x: Any, y: Any) -> Optional[Path]:
         """The least walk from x to y, by weight, then number of edges, then vertices, and None where there is no walk.
         In time of its edges."""
-        return self._path(self._ask(f"path {self._place(x)} {self._place(y)}"))
+        x, y = self._place(x), self._place(y)
+        return self._ask(f"path {x} {y}", lambda words: self._path(words, x, y))
 
     def row(self, x: Any) -> List[Optional[int]]:
         """The distances from x to all vertices in their order, each None where there is no walk. n look-ups."""
-        return [_distance(word) for word in self._ask(f"row {self._place(x)}")]
+        return self._ask(f"row {self._place(x)}", self._row)
 
     def matrix(self) -> Any:
         """The distances between all vertices: a NumPy array of floats with inf where there is no walk, if NumPy is there,
         and else a list of rows with None. All rows are asked for at once; n² look-ups."""
-        replies = self._ask_all([f"row {x}" for x in range(self._count)])
-        rows = [[_distance(word) for word in words] for words in replies]
+        with self._lock:
+            rows = self._ask_all([f"row {x}" for x in range(self._count)], self._row)
         try:
             import numpy
         except ImportError:
             return rows
         return numpy.array([[float("inf") if d is None else d for d in row] for row in rows], dtype=float)
+
+    def eccentricity(self, v: Any) -> Eccentricity:
+        """How far v reaches: Eccentricity(far, reach). n look-ups."""
+        return self._ask(f"ecc {self._place(v)}", lambda words: Eccentricity(*_labelled(words, "far", "reach")))
+
+    def report(self) -> Report:
+        """Diameter, radius and centre: Report(diameter, radius, centre). n² look-ups."""
+        return self._ask("report", self._report)
+
+    def through(self, v: Any) -> int:
+        """The number of pairs of different vertices, both other than v, whose least walk has v in it. In time of the edges
+        of all least walks."""
+        return self._ask(f"through {self._place(v)}", lambda words: _labelled(words, "pairs")[0])
 
     def next_hops(self) -> Dict[Tuple[Any, Any], Any]:
         """For each pair of different vertices with a walk the vertex behind the first on its least walk, as the
@@ -489,12 +582,12 @@ class Network:
 
     def stats(self) -> Stats:
         """How many updates and steps were made and how many paths are kept."""
-        return Stats(*map(int, self._ask("stats")[1::2]))
+        return self._ask("stats", lambda words: Stats(*_labelled(words, *Stats._fields)))
 
     def age(self, vertices: Iterable[Any]) -> Optional[int]:
         """The number of the step that added the kept path with these vertices, 0 for a single vertex, and None where no
         such path is kept. In time of n for each vertex."""
-        return _distance(self._ask("age" + "".join(f" {self._place(v)}" for v in vertices))[-1])
+        return self._ask("age" + "".join(f" {self._place(v)}" for v in vertices), _birth)
 
     def certificate(self) -> bytes:
         """All edges and distances of the present version as a text that `check` tests by itself: up to n² entries."""
@@ -513,7 +606,7 @@ class Network:
 
     def without(self, edges: Iterable[Tuple[Any, Any]]) -> "_Without":
         """In a `with`: the network without these edges, (from, to). At its end the stars of the vertices from which they
-        lead are put back as they were, also behind an exception."""
+        lead are put back as they were, also behind an exception; vertices that were added meanwhile stay."""
         return _Without(self, list(edges))
 
     # ---- names and numbers
@@ -529,10 +622,34 @@ class Network:
     def _name(self, v: int) -> Any:
         return v if self._names is None else self._names[v]
 
-    def _path(self, words: List[str]) -> Optional[Path]:
-        if words[0] == "none":
+    # ---- what replies say
+
+    def _vertex(self, word: str) -> int:
+        v = _number(word)
+        if v >= self._count:
+            raise ValueError(word)
+        return v
+
+    def _path(self, words: List[str], x: int, y: int) -> Optional[Path]:
+        if words == ["none"]:
             return None
-        return Path(int(words[0]), [self._name(int(word)) for word in words[2:]])
+        walk = [self._vertex(word) for word in words[2:]]
+        if words[1] != "walk" or walk[0] != x or walk[-1] != y:
+            raise ValueError(words)
+        return Path(_number(words[0]), [self._name(v) for v in walk])
+
+    def _row(self, words: List[str]) -> List[Optional[int]]:
+        if len(words) != self._count:
+            raise ValueError(words)
+        return [_distance(word) for word in words]
+
+    def _report(self, words: List[str]) -> Report:
+        if words[2:] == ["radius", "none"]:
+            return Report(*_labelled(words[:2], "diameter"), None, [])
+        centre = [self._name(self._vertex(word)) for word in words[5:]]
+        if words[4] != "centre" or not centre:
+            raise ValueError(words)
+        return Report(*_labelled(words[:4], "diameter", "radius"), centre)
 
     # ---- updates: the line, and what it changes of the edges that this side knows
 
@@ -561,6 +678,11 @@ class Network:
                 self._put(v, u, w)
             for u, w in into.items():
                 self._put(u, v, w)
+        elif change[0] == "grow":
+            _, self._count, names = change
+            for name in names:
+                self._places[name] = len(self._names)
+                self._names.append(name)
         else:
             self._put(*change[1:])
 
@@ -604,7 +726,7 @@ class Network:
     def _go_on(self) -> None:
         # A new session with the graph as it is.
         edges = {u: dict(items) for u, items in self._out.items()}
-        self._program.stop()
+        self._finalizer()
         self._begin()
         self._sent_updates([_star_line(u, list(items.items()), [(x, more[u]) for x, more in edges.items() if u in more])
                             for u, items in sorted(edges.items())])
@@ -646,12 +768,12 @@ class Network:
 
     def _refusal(self, reply: str, number: int, line: str) -> Optional[Refused]:
         """The refusal that a reply stands for, or none; it has to be that of this line."""
-        words = reply.split(" ")
-        if words[0] != "line":
+        if not reply.startswith("line "):
             return None
-        if len(words) != 6 or words[1] != str(number):
+        found = _REFUSED.fullmatch(reply)
+        if not found or found[1] != str(number):
             raise self._confused(reply)
-        code, place = int(words[3]), int(words[5])
+        code, place = int(found[2]), int(found[3])
         return REFUSALS.get(code, Refused)(code, place, line)
 
     def _expect(self, reply: str, line: str, front: str) -> str:
@@ -663,12 +785,20 @@ class Network:
             raise self._confused(reply)
         return reply[len(front):]
 
-    def _ask(self, line: str) -> List[str]:
-        with self._lock:
-            lines = self._exchange(line + "\n", 1, lambda reply: True)
-            return self._expect(lines[0], line, line.split(" ")[0] if line == "stats" else line + " ").split()
+    def _taken(self, reply: str, words: List[str], take: Callable[[List[str]], _T]) -> _T:
+        """What `take` makes of these words of a reply."""
+        try:
+            return take(words)
+        except (ValueError, IndexError):
+            raise self._confused(reply) from None
 
-    def _ask_all(self, asked: List[str]) -> List[List[str]]:
+    def _ask(self, line: str, take: Callable[[List[str]], _T]) -> _T:
+        """What `take` makes of the words that stand in the reply behind those of the question."""
+        with self._lock:
+            reply = self._exchange(line + "\n", 1, lambda reply: True)[0]
+            return self._taken(reply, self._expect(reply, line, line + " ").split(" "), take)
+
+    def _ask_all(self, asked: List[str], take: Callable[[List[str]], _T]) -> List[_T]:
         with self._lock:
             left = iter(range(len(asked) - 1, -1, -1))
             lines = self._exchange("".join(line + "\n" for line in asked), len(asked), lambda reply: next(left) == 0)
@@ -676,7 +806,7 @@ class Network:
             for line, reply in zip(asked, lines):
                 if not reply.startswith(line + " "):
                     raise self._confused(reply)
-                replies.append(reply[len(line) + 1:].split())
+                replies.append(self._taken(reply, reply[len(line) + 1:].split(" "), take))
             return replies
 
     def _sent_updates(self, lines: List[str]) -> Dict[int, Refused]:
@@ -713,13 +843,13 @@ def _star_line(v: int, out: List[Tuple[int, int]], into: List[Tuple[int, int]]) 
 
 class Block:
     """The updates and questions of one block. They are sent at the end of the `with`; behind it `answers` has an answer
-    to each question. An exception in the `with` sends nothing."""
+    to each question, and is empty where one was refused. An exception in the `with` sends nothing."""
 
     def __init__(self, network: Network):
         self._network = network
         self._lines: List[str] = []
         self._changes: List[Any] = []
-        self._asks = 0
+        self._asked: List[Tuple[int, int, int]] = []
         self.answers: List[Answer] = []
 
     def __enter__(self) -> "Block":
@@ -744,9 +874,10 @@ class Block:
     def ask(self, x: Any, y: Any, since: int = 0) -> int:
         """Asks for the least walk from x to y, from a version with at least so many of the block's updates, and gives
         the place of the answer."""
-        self._put(f"ask {self._network._place(x)} {self._network._place(y)} since {index(since)}", None)
-        self._asks += 1
-        return self._asks - 1
+        x, y = self._network._place(x), self._network._place(y)
+        self._asked.append((len(self._lines), x, y))
+        self._put(f"ask {x} {y} since {index(since)}", None)
+        return len(self._asked) - 1
 
     def _put(self, line: str, change: Any) -> None:
         self._lines.append(line)
@@ -760,24 +891,33 @@ class Block:
                                         or reply.startswith(f"line {network._lines} "), goes_on=True)
             first = network._lines - len(self._lines) - 1
             refused: Dict[int, Refused] = {}
+            told: List[str] = []
             for reply in replies[:-1]:
-                words = reply.split(" ")
-                if words[0] == "line":
-                    place = int(words[1]) - first
+                found = _REFUSED.fullmatch(reply)
+                if found:
+                    place = int(found[1]) - first
                     line = self._lines[place] if 0 <= place < len(self._lines) else ("block" if place < 0 else "end")
                     refused[place] = network._refusal(reply, first + place, line)
-                elif words[0] == "at" and words[2] == "path":
-                    self.answers.append(Answer(int(words[1]), network._path(words[5:])))
                 else:
-                    raise network._confused(reply)
+                    told.append(reply)
+            asked = [(x, y) for place, x, y in self._asked if place not in refused]
+            if len(asked) != len(told) and -1 not in refused:
+                raise network._confused(replies[-1])
+            answers = [network._taken(reply, reply.split(" "), lambda words: self._answer(words, x, y))
+                       for (x, y), reply in zip(asked, told)]
             for place, change in enumerate(self._changes):
                 if change is not None and place not in refused and -1 not in refused:
                     network._made(change)
             network._busy = False
+            if len(answers) == len(self._asked):
+                self.answers = answers
             for place in sorted(refused):
                 raise refused[place]
-            if len(self.answers) != self._asks:
-                raise network._confused(replies[-1])
+
+    def _answer(self, words: List[str], x: int, y: int) -> Answer:
+        if words[0] != "at" or words[2:5] != ["path", str(x), str(y)]:
+            raise ValueError(words)
+        return Answer(_number(words[1]), self._network._path(words[5:], x, y))
 
 
 class _Without:
