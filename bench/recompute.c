@@ -1,6 +1,7 @@
-/* Answers dist, row and path of a script as one would without apsp: all pairs are computed anew after each update.
+/* Answers dist, row and path of a script as one would without apsp: all pairs are computed anew after each update, or
+ * (asked) nothing is, and Dijkstra's algorithm goes from each vertex that dist or row asks of; path it has none.
  *
- *     recompute floyd|dijkstra < SCRIPT
+ *     recompute floyd|dijkstra|asked < SCRIPT
  *
  * A walk's key is its weight times 1024 plus its number of edges, below 2^52, so doubles hold it exactly, and its order
  * is that of weight, then edges. MOST, the most vertices, is a multiple of 8 that the compiler is told: the nearer it is
@@ -70,40 +71,63 @@ static struct entry pop(void) {
     return top;
 }
 
-static void dijkstra(void) {
-    static int to[MOST][MOST], degree[MOST];
-    for (int u = 0; u < n; u++) {
-        degree[u] = 0;
-        for (int v = 0; v < n; v++) {
-            if (edge[u][v] < NONE) {
-                to[u][degree[u]++] = v;
-            }
+/* The heads of the edges of each vertex, made anew where one came or went. */
+static int to[MOST][MOST], degree[MOST], stale[MOST];
+
+static void list_heads(int u) {
+    degree[u] = stale[u] = 0;
+    for (int v = 0; v < n; v++) {
+        if (edge[u][v] < NONE) {
+            to[u][degree[u]++] = v;
         }
     }
-    for (int x = 0; x < n; x++) {
-        for (int y = 0; y < n; y++) {
-            least[x][y] = NONE;
+}
+
+/* The keys from x to all vertices, or, where `last` is one, to those that are no farther than it. */
+static void go_from(int x, int last) {
+    for (int y = 0; y < n; y++) {
+        least[x][y] = NONE;
+    }
+    least[x][x] = 0;
+    held = 0;
+    push(0, x);
+    while (held > 0) {
+        struct entry top = pop();
+        int u = top.vertex;
+        if (u == last) {
+            return;
         }
-        least[x][x] = 0;
-        push(0, x);
-        while (held > 0) {
-            struct entry top = pop();
-            if (top.key > least[x][top.vertex]) {
-                continue;
-            }
-            for (int i = 0; i < degree[top.vertex]; i++) {
-                int v = to[top.vertex][i];
-                double key = top.key + edge[top.vertex][v];
-                if (key < least[x][v]) {
-                    least[x][v] = key;
-                    push(key, v);
-                }
+        if (top.key > least[x][u]) {
+            continue;
+        }
+        if (stale[u]) {
+            list_heads(u);
+        }
+        for (int i = 0; i < degree[u]; i++) {
+            int v = to[u][i];
+            double key = top.key + edge[u][v];
+            if (key < least[x][v]) {
+                least[x][v] = key;
+                push(key, v);
             }
         }
     }
 }
 
-static void set(int u, int v, double weight) { edge[u][v] = weight * 1024 + 1; }
+static void dijkstra(void) {
+    for (int x = 0; x < n; x++) {
+        go_from(x, -1);
+    }
+}
+
+static void nothing(void) {}
+
+static void put(int u, int v, double key) {
+    stale[u] |= (edge[u][v] < NONE) != (key < NONE);
+    edge[u][v] = key;
+}
+
+static void set(int u, int v, double weight) { put(u, v, weight * 1024 + 1); }
 
 static void put_distance(int x, int y) {
     if (least[x][y] >= NONE) {
@@ -129,7 +153,8 @@ static int update(char **words, int count) {
     if (strcmp(words[0], "star") == 0) {
         int v = atoi(words[1]), out = 1;
         for (int u = 0; u < n; u++) {
-            edge[v][u] = edge[u][v] = NONE;
+            put(v, u, NONE);
+            put(u, v, NONE);
         }
         for (int i = 2; i < count; i++) {
             char *colon = strchr(words[i], ':');
@@ -144,7 +169,7 @@ static int update(char **words, int count) {
     } else if (strcmp(words[0], "edge") == 0) {
         set(atoi(words[1]), atoi(words[2]), atof(words[3]));
     } else if (strcmp(words[0], "cut") == 0) {
-        edge[atoi(words[1])][atoi(words[2])] = NONE;
+        put(atoi(words[1]), atoi(words[2]), NONE);
     } else {
         return 0;
     }
@@ -163,6 +188,9 @@ static void answer(char **words, void (*compute)(void)) {
         }
         compute();
     } else if (strcmp(words[0], "row") == 0) {
+        if (compute == nothing) {
+            go_from(x, -1);
+        }
         printf("row %d", x);
         for (y = 0; y < n; y++) {
             put_distance(x, y);
@@ -171,6 +199,9 @@ static void answer(char **words, void (*compute)(void)) {
     } else if (strcmp(words[0], "stats") == 0) {
         printf("stats updates %ld steps 0 paths 0 historical 0 formed 0 removed 0\n", updates);
     } else {
+        if (compute == nothing) {
+            go_from(x, y);
+        }
         printf("%s %d %d", words[0], x, y);
         put_distance(x, y);
         if (words[0][0] == 'p' && least[x][y] < NONE) {
@@ -182,7 +213,9 @@ static void answer(char **words, void (*compute)(void)) {
 }
 
 int main(int count, char **given) {
-    void (*compute)(void) = count == 2 && strcmp(given[1], "dijkstra") == 0 ? dijkstra : floyd;
+    void (*compute)(void) = count != 2 || strcmp(given[1], "floyd") == 0 ? floyd
+                            : strcmp(given[1], "dijkstra") == 0          ? dijkstra
+                                                                         : nothing;
     static char line[65600];
     static char *words[70000];
     while (fgets(line, sizeof line, stdin)) {

@@ -1,4 +1,4 @@
-"""Runs generated scripts through the built program and prints time, kept paths and memory. See README.md."""
+"""Runs generated scripts through the built program and prints processor time, kept paths and memory. See README.md."""
 
 import argparse
 import os
@@ -10,7 +10,7 @@ import time
 
 TOP = os.path.dirname(os.path.dirname(os.path.abspath(__file__)))
 PROGRAM = os.environ.get("APSP_PROGRAM") or os.path.join(TOP, "crates", "apsp", "out", "apsp")
-GRIDS = {16: (4, 4), 60: (6, 10), 128: (8, 16), 512: (16, 32)}
+GRIDS = {16: (4, 4), 60: (6, 10), 128: (8, 16), 256: (16, 16), 512: (16, 32)}
 CHANGES = 200
 QUESTIONS = 5
 AGAIN = 16
@@ -84,16 +84,16 @@ SCRIPTS = {f"{kind.__name__}{n}": (kind, n)
            for kind, sizes in ((dense, (16, 32, 64, 128)), (road, (16, 60, 128)), (sparse, (16, 64, 128)))
            for n in sizes}
 NAMED = {f"complete{n}": (complete, n) for n in (16, 32, 64, 128)}
-NAMED.update({f"{kind.__name__}512": (kind, 512) for kind in (dense, road, sparse)})
+NAMED.update({f"{kind.__name__}{n}": (kind, n) for kind in (dense, road, sparse) for n in (256, 512)})
 
 
 def text_of(lines):
     return ("\n".join(lines + ["stats"]) + "\n").encode()
 
 
-def measured(text, command):
-    """Seconds by the clock, processor seconds, peak kilobytes and kept paths. The input is closed only once these were
-    read, behind the last reply."""
+def measured(text, command, replies=None):
+    """Seconds by the clock, processor seconds of the first thread, peak kilobytes and kept paths. The input is closed only once
+    these were read, behind the last reply. The replies but that of stats go into a hash, where one is given."""
     start = time.perf_counter()
     with subprocess.Popen(command, stdin=subprocess.PIPE, stdout=subprocess.PIPE, bufsize=-1) as child:
         writer = threading.Thread(target=lambda: (child.stdin.write(text), child.stdin.flush()))
@@ -101,6 +101,8 @@ def measured(text, command):
         for line in child.stdout:
             if line.startswith(b"stats"):
                 break
+            if replies is not None:
+                replies.update(line)
         seconds = time.perf_counter() - start
         writer.join()
         with open(f"/proc/{child.pid}/status", encoding="ascii") as status:
@@ -132,13 +134,13 @@ def stop_unless_ready(names):
 def main():
     names = named(__doc__).names or list(SCRIPTS)
     stop_unless_ready(names)
-    print(f"{'script':<12}{'smooth':<8}{'updates':>8}{'seconds':>9}{'ms/update':>11}{'paths':>9}{'peak MB':>9}")
+    print(f"{'script':<12}{'smooth':<8}{'updates':>8}{'cpu s':>9}{'ms/update':>11}{'paths':>9}{'peak MB':>9}")
     for name in names:
         kind, n = SCRIPTS.get(name) or NAMED[name]
         lines, updates = kind(n)
         text = text_of(lines)
         for words in ([], ["--smooth"]):
-            seconds, _, memory, paths = min(measured(text, [PROGRAM, "run"] + words) for _ in range(3))
+            _, seconds, memory, paths = min((measured(text, [PROGRAM, "run"] + words) for _ in range(3)), key=lambda one: one[1])
             print(f"{name:<12}{'on' if words else 'off':<8}{updates:>8}{seconds:>9.3f}{1000 * seconds / updates:>11.3f}"
                   f"{paths:>9}{memory / 1024:>9.1f}", flush=True)
 
