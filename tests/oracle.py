@@ -4,9 +4,10 @@
 
 Small networks, of two to five vertices, by brute force: all simple walks are listed, what is historical is kept as a set
 of lists, and a list is local where each of its proper parts is in it. Half of the scripts have `--smooth`. Weights are few
-and begin at 0, so that there are cycles of weight 0 and ties of each kind. Behind each update come `stats`, all `path` and
-some `age`. Large networks, of 129 to 512 vertices, by Dijkstra's algorithm over weight and then number of edges from the
-asked vertex backwards; of the walks that are equal by both the first list is put together vertex by vertex.
+and begin at 0, so that there are cycles of weight 0 and ties of each kind. Behind each update come `stats`, all `path`, some
+`age`, `ecc`, `report` and `through`; some updates are a `grow`, and some of these are refused. Large networks, of 129 to 512
+vertices, by Dijkstra's algorithm over weight and then number of edges from the asked vertex backwards; of the walks that are
+equal by both the first list is put together vertex by vertex.
 The last line is 'N passed, M failed'.
 """
 
@@ -22,10 +23,15 @@ class Definitions:
     """What is kept of a small network, by the definitions."""
 
     def __init__(self, n, smooth):
-        self.n, self.smooth, self.edges = n, smooth, {}
-        self.lists = [p for k in range(2, n + 1) for p in permutations(range(n), k)]
+        self.smooth, self.edges = smooth, {}
         self.historical, self.births, self.least = set(), {}, {}
+        # The vertex of each update, and None for a grow.
         self.stars, self.steps, self.formed, self.removed = [], 0, 0, 0
+        self.have(n)
+
+    def have(self, n):
+        self.n = n
+        self.lists = [p for k in range(2, n + 1) for p in permutations(range(n), k)]
 
     def weight(self, p):
         pairs = list(zip(p, p[1:]))
@@ -51,15 +57,52 @@ class Definitions:
         now, back = len(self.stars), 1
         while self.smooth and now - back >= 1:
             u = self.stars[now - back - 1]
-            if u not in self.stars[now - back:]:
+            if u is not None and u not in self.stars[now - back:]:
                 self.step(u)
             back *= 2
         self.formed = len(self.births) - before + self.removed
+
+    def grow(self, n):
+        """The new vertices have no edges, so no list with an edge is added, and births stay."""
+        self.stars.append(None)
+        self.steps += 1
+        self.formed = self.removed = 0
+        self.have(n)
+
+    def walk(self, x, y):
+        """Weight, length and list of the least walk, or None."""
+        return (0, 1, (x,)) if x == y else self.least.get((x, y))
 
     def stats(self):
         historical = sum(p in self.historical for p in self.births)
         return (f"stats updates {len(self.stars)} steps {self.steps} paths {len(self.births)} historical {historical} "
                 f"formed {self.formed} removed {self.removed}")
+
+
+def span(n, walk, x):
+    """The greatest distance from x, and how many vertices have a walk from x."""
+    found = [w for y in range(n) for w in [walk(x, y)] if w is not None]
+    return max(w[0] for w in found), len(found)
+
+
+def ecc(n, walk, x):
+    return "ecc {} far {} reach {}".format(x, *span(n, walk, x))
+
+
+def report(n, walk):
+    spans = [span(n, walk, x) for x in range(n)]
+    reaching = [far for far, reach in spans if reach == n]
+    text = f"report diameter {max(far for far, _ in spans)} radius "
+    if not reaching:
+        return text + "none"
+    centre = [x for x in range(n) if spans[x] == (min(reaching), n)]
+    return text + f"{min(reaching)} centre " + " ".join(map(str, centre))
+
+
+def through(n, walk, v):
+    others = [x for x in range(n) if x != v]
+    walks = [walk(x, y) for x in others for y in others if x != y]
+    return f"through {v} pairs {sum(w is not None and v in w[2] for w in walks)}"
 
 
 def put_star(chance, edges, v, others, most):
@@ -90,25 +133,50 @@ def drawn_update(chance, edges, n, most, degree):
     return v, f"cut {v} {u}"
 
 
+def grown(chance, network, most, number):
+    """Draws a grow to at most so many vertices, and gives its line and its replies."""
+    n = chance.choice([network.n - 1, network.n, network.n + 1, network.n + 1, network.n + 1, 513])
+    line = f"grow {n}"
+    if not 1 <= n <= 512:
+        return line, [f"line {number} error 6 at 2"]
+    if n <= network.n:
+        return line, [f"line {number} error 15 at 2"]
+    if n > most:
+        return "# " + line, []
+    network.grow(n)
+    return line, []
+
+
 def small(chance):
     """A script of a small network, with its replies."""
     n, most = chance.randint(2, 5), chance.choice([1, 2, 8])
     network = Definitions(n, chance.random() < 0.5)
     lines, replies = [f"vertices {n}"], []
     for _ in range(chance.randint(3, 11)):
-        v, line = drawn_update(chance, network.edges, n, most, 0.65)
-        lines += [line, "stats"]
-        network.update(v)
+        n = network.n
+        if chance.random() < 0.2:
+            line, refused = grown(chance, network, 5, len(lines) + 1)
+            lines.append(line)
+            replies += refused
+        else:
+            v, line = drawn_update(chance, network.edges, n, most, 0.65)
+            lines.append(line)
+            network.update(v)
+        lines.append("stats")
         replies.append(network.stats())
+        n = network.n
         for x in range(n):
             for y in range(n):
                 lines.append(f"path {x} {y}")
-                found = (0, 1, (x,)) if x == y else network.least.get((x, y))
+                found = network.walk(x, y)
                 walk = "none" if found is None else f"{found[0]} walk " + " ".join(map(str, found[2]))
                 replies.append(f"{lines[-1]} {walk}")
         for p in chance.sample(network.lists, min(4, len(network.lists))):
             lines.append("age " + " ".join(map(str, p)))
             replies.append(lines[-1] + (f" birth {network.births[p]}" if p in network.births else " none"))
+        x, v = chance.randrange(n), chance.randrange(n)
+        lines += [f"ecc {x}", "report", f"through {v}"]
+        replies += [ecc(n, network.walk, x), report(n, network.walk), through(n, network.walk, v)]
     return ["run"] + ["--smooth"] * network.smooth, lines, replies
 
 
@@ -137,6 +205,21 @@ def least_walk(edges, ranks, x, y):
     return walk
 
 
+def least_walks(n, edges):
+    """Weight, length and list of the least walk from x to y, or None, for all x and y."""
+    found = {}
+    for y in range(n):
+        ranks = ranks_to(n, edges, y)
+        after = {}
+        for (u, v), w in edges.items():
+            if u in ranks and v in ranks and (ranks[v][0] + w, ranks[v][1] + 1) == ranks[u]:
+                after[u] = min(v, after.get(u, v))
+        for x in sorted(ranks, key=lambda x: ranks[x][1]):
+            rest = () if x == y else found[after[x], y][2]
+            found[x, y] = (ranks[x][0], ranks[x][1] + 1, (x, *rest))
+    return lambda x, y: found.get((x, y))
+
+
 def large(chance):
     """A script of a large network with few edges a vertex, with its replies."""
     n, edges = chance.randint(129, 512), {}
@@ -147,6 +230,9 @@ def large(chance):
         if u != v:
             edges[v, u] = chance.randint(0, most)
             lines.append(f"edge {v} {u} {edges[v, u]}")
+    if n < 500:
+        n += chance.randint(1, 12)
+        lines.append(f"grow {n}")
     for _ in range(chance.randint(5, 25)):
         _, line = drawn_update(chance, edges, n, most, 3 / n)
         lines.append(line)
@@ -157,6 +243,9 @@ def large(chance):
             found = ranks.get(x)
             walk = "none" if found is None else f"{found[0]} walk " + " ".join(map(str, least_walk(edges, ranks, x, y)))
             replies.append(f"{lines[-1]} {walk}")
+    walk, x, v = least_walks(n, edges), chance.randrange(n), chance.randrange(n)
+    lines += [f"ecc {x}", "report", f"through {v}"]
+    replies += [ecc(n, walk, x), report(n, walk), through(n, walk, v)]
     return ["run"] + ["--smooth"] * (chance.random() < 0.3), lines, replies
 
 
@@ -165,7 +254,8 @@ def agrees(program, words, lines, replies):
     text = "".join(line + "\n" for line in lines)
     done = subprocess.run([program, *words], input=text, stdout=subprocess.PIPE, text=True, timeout=900)
     given = done.stdout.splitlines()
-    if (given, done.returncode) == (replies, 0):
+    status = 1 if any(reply.startswith("line ") for reply in replies) else 0
+    if (given, done.returncode) == (replies, status):
         return True
     at = next((k for k, pair in enumerate(zip(given, replies)) if pair[0] != pair[1]), min(len(given), len(replies)))
     print(f"oracle: {' '.join(words)} differs at reply {at}: {given[at:at + 1]}, wanted {replies[at:at + 1]}\n{text}")

@@ -114,7 +114,7 @@ def certificates_of_scripts():
         if words and words[0] != "run" or status > 1 or fault:
             continue
         output, _ = run(words, data + b"\ncert\n", [])
-        found = output.rfind(b"apsp certificate 1\n")
+        found = output.rfind(b"apsp certificate 2\n")
         if found >= 0:
             yield name, output[found:]
 
@@ -126,8 +126,10 @@ def check_certificates():
         texts.append(("the certificate of " + name, text))
         if not certificates.judge(text)[0].startswith(b"certificate yes"):
             yield f"the certificate of {name}: it is not lawful\n  {short(text)}"
-    with open(os.path.join(TOP, "examples", "certificate-check.txt"), "rb") as file:
-        small = [file.read(), certificates.joined(certificates.SMALL)]
+    small = [certificates.joined(certificates.SMALL), certificates.joined(certificates.GROUPED)]
+    for name in "certificate-check.txt", "certificate.out":
+        with open(os.path.join(TOP, "examples", name), "rb") as file:
+            small.append(file.read())
     texts += [("a changed certificate", mutant) for text in small for mutant in certificates.mutants(text)]
     with ThreadPoolExecutor(4) as pool:
         answers = list(pool.map(lambda item: run(["check"], item[1], []), texts))

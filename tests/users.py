@@ -181,9 +181,10 @@ def wrong_lines():
         if many.fullmatch(text):
             line, count, other = many.fullmatch(text).groups()
             before = (other + "\n") * int(count.replace(",", ""))
-        opening = ("" if code == 1 else "vertices 3\n") + ("block\n" if code > 11 else "")
-        end = "end\n" if code > 11 else ""
-        yield code, "live" if code > 11 else "run", opening + before + line + "\n" + end, line, reply, expected
+        of_block = code in (12, 13, 14)
+        opening = ("" if code == 1 else "vertices 3\n") + ("block\n" if of_block else "")
+        end = "end\n" if of_block else ""
+        yield code, "live" if of_block else "run", opening + before + line + "\n" + end, line, reply, expected
 
 
 def each_code_has_its_wrong_line(program):
@@ -220,12 +221,57 @@ def explain_says_what_is_expected(program):
         same(done.stderr.splitlines()[0], said, "an option that is none")
 
 
+def codes():
+    """The name of each code in FORMATS."""
+    refusals = text_of("docs", "FORMATS.md").partition("\n## Refusals\n")[2].partition("\n## ")[0]
+    return {int(code): name for code, name in re.findall(r"^\| (\d+) \| ([A-Z]\w+) \|", refusals, re.M)}
+
+
+def explain_knows_each_code(_program):
+    """Also those that no line of the modes run and live is refused with."""
+    awk = shutil.which("awk")
+    if not awk:
+        raise Skip("no awk is here")
+    found = codes()
+    same(sorted(found), list(range(1, 1 + len(found))), "the codes of docs/FORMATS.md")
+    with tempfile.TemporaryDirectory() as folder:
+        script, replies = os.path.join(folder, "script"), os.path.join(folder, "replies")
+        for code, name in found.items():
+            with open(script, "w", encoding="ascii") as file:
+                file.write("vertices 3\ngrow 3 4\n")
+            with open(replies, "w", encoding="ascii") as file:
+                file.write(f"line 2 error {code} at 2\n")
+            done = run([awk, "-f", os.path.join(TOP, "wrapper", "explain.awk"), "part=formats", os.path.join(TOP, "docs", "FORMATS.md"),
+                        "part=script", script, "part=replies", replies])
+            told = done.stdout.splitlines()
+            same((len(told), told[1], told[2].split(":")[0]), (4, "  grow 3 4", f"  {name}, at word 2 (3)"), code)
+            assert re.fullmatch(r"  expected: .{10,}", told[3]) and len(told[2]) > len(name) + 30, told
+
+
+def the_clients_know_each_code(_program):
+    """The names of both clients, the constants of the header and what they say is expected, beside docs/FORMATS.md."""
+    source, header, python = text_of("clients", "c", "apsp.c"), text_of("clients", "c", "apsp.h"), text_of("clients", "python", "apsp.py")
+    in_c = re.findall(r'^    \{"(\w+)", "([^"]+)"\},$', source, re.M)
+    same({place: name for place, (name, _) in enumerate(in_c, 1)}, codes(), "the names of clients/c/apsp.c")
+    constants = header.partition("APSP_NO_VERTICES = 1,")[0].rpartition("enum {")[2] + header.partition("APSP_NO_VERTICES = 1,")[2]
+    listed = ["APSP_NO_VERTICES"] + re.findall(r"APSP_\w+", constants.partition("}")[0])
+    same(listed, ["APSP" + re.sub("([A-Z])", r"_\1", name).upper() for name in codes().values()], "the constants of clients/c/apsp.h")
+    kinds = re.findall(r'^class (\w+)\(Refused\):\n.*\n\n    code, expected = (\d+), "([^"]+)"$', python, re.M)
+    same({int(code): name for name, code, _ in kinds}, codes(), "the exceptions of clients/python/apsp.py")
+    of_python = {name: expected.replace("made with live=True", "that apsp_open_live made") for name, _, expected in kinds}
+    same(of_python, dict(in_c), "what the clients say is expected")
+
+
 def a_file_stands_for_standard_input(program):
     with Checkout(program) as here:
         with open(os.path.join(here.top, "script.txt"), "w", encoding="ascii") as file:
             file.write("vertices 2\nedge 0 1 0\ndist 0 1\n")
         done = here.apsp("run", "script.txt", "--smooth", cwd=here.top)
         same((done.returncode, done.stdout, done.stderr), (0, "dist 0 1 0\n", ""), "a file behind run")
+        done = here.apsp("live", "examples/block.txt", "--readers", "2", cwd=here.top)
+        same((done.returncode, done.stdout, done.stderr), (0, text_of("examples", "block.out"), ""), "a file behind live")
+        done = here.apsp("check", "examples/certificate-check.txt", cwd=here.top)
+        same((done.returncode, done.stdout, done.stderr), (0, text_of("examples", "certificate-check.out"), ""), "a file behind check")
         done = here.apsp("run", "nothing.txt", cwd=here.top)
         said = "apsp: 'nothing.txt' is no file that can be read\n"
         same((done.returncode, done.stdout, done.stderr), (2, "", said), "a file that is not there")
@@ -302,6 +348,8 @@ def pictures_of_the_examples(program):
             ("vertices 3\nedge 0 1 5\nedge 1 2 5\n", ["--from", "0", "--to", "2"], "from 0 to 2: 10 m by 0 1 2"),
             ("vertices 3\nedge 0 1 5\n", ["--from", "0", "--to", "2"], "no way leads from 0 to 2"),
             ("vertices 3\nedge 0 1 5\n", ["--from", "0", "--to", "3"], "planner.py: 3 is no crossing: there are 0 to 2"),
+            ("vertices 2\nedge 0 1 5\nreport\ngrow 3\necc 0\nthrough 0\nedge 1 2 6\n", ["--from", "0", "--to", "2"],
+             "from 0 to 2: 11 m by 0 1 2"),
             ("vertices 3\nblock\n", [], "planner.py: line 2 of way.txt is not understood: block"),
         ]:
             with open(os.path.join(here.top, "way.txt"), "w", encoding="ascii") as file:
@@ -322,9 +370,17 @@ def pictures_of_the_examples(program):
         same(verdict, "certificate yes 80", "the checker's verdict on the planner's certificate")
 
 
+def an_example_has_each_line(_program):
+    section = text_of("docs", "FORMATS.md").partition("\n## Lines of a script\n")[2].partition("\n## ")[0]
+    known = re.findall(r"^\| `([a-z]+)", section, re.M)
+    used = {line.split()[0] for line in text_of("examples", "every-line.txt").splitlines()}
+    same(([word for word in known if word not in used], len(known) > 10), ([], True), "commands that examples/every-line.txt has not")
+
+
 def the_bench_says_what_is_missing(program):
     bench = os.path.join(TOP, "bench", "run.py")
-    for name, wanted in (("run", "Runs generated scripts"), ("beside", "beside a recomputation"), ("live", "a block of 64 updates")):
+    for name, wanted in (("run", "Runs generated scripts"), ("beside", "beside a recomputation"), ("live", "a block of 64 updates"),
+                         ("clients", "many written before the first reply"), ("readme", "all rows of the table of README")):
         done = run([sys.executable, "-B", os.path.join(TOP, "bench", name + ".py"), "--help"])
         same((done.returncode, wanted in done.stdout), (0, True), name)
     for named, words, wanted in (
@@ -334,6 +390,30 @@ def the_bench_says_what_is_missing(program):
         done = run([sys.executable, "-B", bench, *words], env=dict(os.environ, APSP_PROGRAM=named))
         same((done.returncode, done.stdout, len(done.stderr.splitlines())), (1, "", 1), words)
         assert wanted in done.stderr, done.stderr
+
+
+def the_bench_measures(program):
+    """A small script by each part of the bench: it runs, the replies of all ways are the same, and each row has its numbers."""
+    compiler = os.environ.get("CC") or shutil.which("cc") or shutil.which("gcc") or shutil.which("clang")
+    how = dict(os.environ, APSP_PROGRAM=program)
+    done = run([sys.executable, "-B", os.path.join(TOP, "bench", "clients.py"), "--runs", "1", "--vertices", "16"], env=how)
+    rows = re.findall(r"^\| (Python|C) \| 16 \| \d+ \w+(?: \| [\d.-]+){6} \|$", done.stdout, re.M)
+    same((done.returncode, rows), (0, ["Python"] + ["C"] * bool(compiler) + ["Python"]), done.stdout + done.stderr)
+    if not compiler:
+        raise Skip("no C compiler is here, which the recomputations need")
+    with Checkout(program) as here:
+        shutil.copytree(os.path.join(TOP, "bench"), os.path.join(here.top, "bench"))
+        shutil.copy2(os.path.join(TOP, "README.md"), here.top)
+        words = ["bench/readme.py", "--write", "dense16", "sparse16"]
+        done = run([sys.executable, "-B", *words], cwd=here.top, env=how)
+        rows = re.findall(r"^\| (\w+)((?: \| [\d.]+){7}) \|$", done.stdout, re.M)
+        same((done.returncode, [row[0] for row in rows]), (0, ["dense16", "sparse16"]), done.stdout + done.stderr)
+        with open(os.path.join(here.top, "README.md"), encoding="utf-8") as file:
+            written = file.read()
+        page = text_of("README.md")
+        start, end = "<!-- measured by bench/readme.py -->\n", "<!-- end of what is measured -->\n"
+        same(written.partition(start)[2].partition(end)[0].strip(), done.stdout.strip(), "what stands in README")
+        same((written.partition(start)[0], written.partition(end)[2]), (page.partition(start)[0], page.partition(end)[2]), "the rest")
 
 
 def client_in_python(program):
@@ -362,6 +442,13 @@ def client_in_c(program):
             same((done.returncode, done.stdout), (0, ""), f"{sanitizer} {done.stderr[-2000:]}")
         defined = run([compiler, "-std=c11", "-Wall", "-Wextra", "-D_GNU_SOURCE", "-c", sources[0], "-o", built + ".o"])
         same((defined.returncode, defined.stderr), (0, ""), "the client compiles where _GNU_SOURCE is defined")
+        other = shutil.which("c++") or shutil.which("g++") or shutil.which("clang++")
+        if other:
+            header = os.path.join(TOP, "clients", "c", "apsp.h")
+            done = run([other, "-x", "c++", "-std=c++11", "-Wall", "-Wextra", "-fsyntax-only", header])
+            same((done.returncode, done.stderr), (0, ""), "the header in C++")
+        else:
+            print("client_in_c: skipped in part, since no C++ compiler is here")
         if shutil.which("valgrind"):
             # It sees what no sanitizer of gcc sees: what is read before it is written.
             plain = run(strict)
@@ -393,6 +480,9 @@ def graphs_are_converted(program):
             ("csv", "a,b,1.5\n", "line 1: the weight 1.5 is no whole number: give a --scale"),
             ("csv", "a,b,4294967296\n", "line 1: the weight 4294967296 is outside 0 to 4294967295"),
             ("graphml", "<graphml>\n<graph>\n<node id='x'/>\n", "line 4: no element found"),
+            ("graphml", "<graphml><graph><node id='x'/>\n<edge source='x' target='y'/></graph></graphml>", "line 2: there is no node 'y'"),
+            ("csv", "".join(f"a{v},a{v + 1},1\n" for v in range(512)), "line 512: more than 512 vertices"),
+            ("csv", "", "line 1: there is no vertex"),
         ]:
             with open(os.path.join(here.top, "graph"), "w", encoding="utf-8") as file:
                 file.write(text)
@@ -414,10 +504,11 @@ def an_installed_program_is_used(program):
         same((done.returncode, done.stdout, done.stderr), (0, "dist 0 1 7\n", ""), "bin/apsp")
         done = run([installed, "--version"], cwd="/")
         same(done.stdout, text_of("VERSION"), "its version")
-        code = "import apsp; n = apsp.Network(2); n.edge(0, 1, 7); print(n.dist(0, 1), n.close())"
+        code = ("import apsp; n = apsp.Network(2); n.edge(0, 1, 7); print(n.dist(0, 1), n.add_vertices(), n.report().diameter, "
+                "n.eccentricity(0).reach, n.through(0), n.close())")
         where = os.path.join(prefix, "share", "apsp", "python")
         done = run([sys.executable, "-c", code], cwd="/", env=dict(os.environ, PYTHONPATH=where, APSP_PROGRAM=installed))
-        same((done.returncode, done.stdout), (0, "7 0\n"), done.stderr)
+        same((done.returncode, done.stdout), (0, "7 [2] 7 2 0 0\n"), done.stderr)
         compiler = shutil.which("cc") or shutil.which("gcc")
         if compiler:
             source = os.path.join(prefix, "use.c")
@@ -427,6 +518,23 @@ def an_installed_program_is_used(program):
             done = run([compiler, source, f"-I{prefix}/include", f"-L{prefix}/lib", "-lapsp", "-o", built])
             same(done.returncode, 0, done.stderr)
             same(run([built, installed]).returncode, 0, "a program with the library")
+        settings = os.path.join(prefix, "lib", "pkgconfig")
+        with open(os.path.join(settings, "apsp.pc"), encoding="ascii") as file:
+            same("@" in file.read(), False, "apsp.pc has its values")
+        if shutil.which("pkg-config"):
+            env = dict(os.environ, PKG_CONFIG_PATH=settings)
+            told = run(["pkg-config", "--modversion", "apsp"], env=env)
+            same((told.returncode, told.stdout), (0, "0.1.0\n"), told.stderr)
+            flags = run(["pkg-config", "--cflags", "--libs", "apsp"], env=env).stdout.split()
+            if compiler:
+                os.remove(built)
+                done = run([compiler, source, *flags, "-o", built])
+                same((done.returncode, done.stderr), (0, ""), f"a program with the library, by pkg-config {flags}")
+                same(run([built, installed]).returncode, 0, "it runs")
+        else:
+            print("an_installed_program_is_used: skipped in part: no pkg-config is here")
+        for page in ("share/man/man1/apsp.1", "share/bash-completion/completions/apsp", "share/apsp/examples/every-line.txt"):
+            same(os.path.exists(os.path.join(prefix, page)), True, page)
         done = run([make, "dist"], cwd=here.top)
         same(done.returncode, 0, done.stderr)
         archive = os.path.join(here.top, "dist", "apsp-0.1.0.tar.gz")
@@ -442,19 +550,51 @@ def a_package_is_installed_without_a_network(program):
         if "No module named pip" in done.stderr:
             raise Skip("no pip is here")
         same(done.returncode, 0, done.stderr)
-        code = "import apsp; n = apsp.Network(2); n.edge(0, 1, 7); print(n.dist(0, 1), n.close(), apsp.__version__)"
+        code = ("import apsp; n = apsp.Network(2); n.edge(0, 1, 7); print(n.dist(0, 1), n.add_vertices(2), n.close(), "
+                "apsp.__version__)")
         env = {name: value for name, value in os.environ.items() if name != "APSP_PROGRAM"}
         done = run([sys.executable, "-c", code], cwd="/", env=dict(env, PYTHONPATH=target))
-        same((done.returncode, done.stdout), (0, "7 0 0.1.0\n"), done.stderr)
+        same((done.returncode, done.stdout), (0, "7 [2, 3] 0 0.1.0\n"), done.stderr)
+
+
+def options_of_the_modes():
+    """The options of each mode in FORMATS."""
+    rows = re.findall(r"^\| `(--\w+)(?: [A-Z])?` \| ((?:`\w+`(?:, )?)+) \|", text_of("docs", "FORMATS.md"), re.M)
+    assert rows, "no option is read from docs/FORMATS.md"
+    return {mode: {option for option, modes in rows if f"`{mode}`" in modes} for mode in ("run", "live", "check", "load")}
+
+
+def completed(words):
+    """What bash completes the last of these words to."""
+    code = (f"source {shlex.quote(os.path.join(TOP, 'wrapper', 'completion.bash'))}; COMP_WORDS=({' '.join(map(shlex.quote, words))}); "
+            f"COMP_CWORD={len(words) - 1}; _apsp; printf '%s\\n' \"${{COMPREPLY[@]}}\"")
+    done = run([shutil.which("bash"), "-c", code], cwd=TOP)
+    same((done.returncode, done.stderr), (0, ""), words)
+    return set(done.stdout.split())
 
 
 def the_words_are_completed(_program):
-    bash = shutil.which("bash")
-    for words, wanted in [(["apsp", "li"], "live"), (["apsp", "live", "--sl"], "--slots"), (["apsp", "convert", "d"], "dimacs")]:
-        code = (f"source {shlex.quote(os.path.join(TOP, 'wrapper', 'completion.bash'))}; COMP_WORDS=({' '.join(words)}); "
-                f"COMP_CWORD={len(words) - 1}; _apsp; printf '%s\\n' \"${{COMPREPLY[@]}}\"")
-        done = run([bash, "-c", code], cwd="/")
-        same((wanted in done.stdout.split(), done.stderr), (True, ""), words)
+    modes = {"run", "live", "check", "load", "explain", "convert", "help", "-h", "--help", "-V", "--version"}
+    for words, wanted in [
+        (["apsp", ""], modes),
+        (["apsp", "li"], {"live"}),
+        (["apsp", "live", "--sl"], {"--slots"}),
+        (["apsp", "live", "--slots", ""], set()),
+        (["apsp", "run", "VERS"], {"VERSION"}),
+        (["apsp", "load", ""], set()),
+        (["apsp", "load", "2", "1", "-"], {"--workers"}),
+        (["apsp", "convert", ""], {"dimacs", "csv", "graphml"}),
+        (["apsp", "convert", "csv", "VERS"], {"VERSION"}),
+        (["apsp", "convert", "csv", "VERSION", "-"], {"--scale"}),
+        (["apsp", "explain", "VERS"], {"VERSION"}),
+        (["apsp", "explain", "VERSION", ""], {"run", "live"}),
+    ]:
+        same(completed(words), wanted, words)
+    for mode, options in options_of_the_modes().items():
+        numbers = ["2", "1"] if mode == "load" else []
+        same(completed(["apsp", mode, *numbers, "--"]), options, mode)
+        if mode in ("run", "live"):
+            same(completed(["apsp", "explain", "VERSION", mode, "--"]), options, f"explain, {mode}")
 
 
 CHECKS = [
@@ -468,12 +608,16 @@ CHECKS = [
     the_picture_is_that_of_the_crates,
     each_code_has_its_wrong_line,
     explain_says_what_is_expected,
+    explain_knows_each_code,
+    the_clients_know_each_code,
     a_file_stands_for_standard_input,
     a_wrong_word_is_named,
     an_older_program_runs_without_rt,
     commands_of_the_documents,
     code_of_the_documents,
+    an_example_has_each_line,
     the_bench_says_what_is_missing,
+    the_bench_measures,
     pictures_of_the_examples,
     graphs_are_converted,
     an_installed_program_is_used,
